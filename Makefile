@@ -30,7 +30,7 @@ mutations:
 refused:
 	tools/refused $(ONLY)
 
-# CI: in seconds, that each mutation applies, that the README's program is the tour, that the pages
+# CI: in seconds, that each mutation applies, that the README's program is the example, that the pages
 # docs/api.md and docs/theorems.md are those of the sources, and that the counts of tools/house are
 # those of tools/house.counts; then every proof and the mutations of must-fail/ (of what changed,
 # where earlier runs are kept), every test and every program; and the tests once more, with each of

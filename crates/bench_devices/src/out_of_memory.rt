@@ -1,5 +1,8 @@
 //! A file in memory that can't grow.
-ghost use Rattle.std.specs.Prelude.{min, true};
+ghost use Rattle.std.specs.Prelude.{◌≡◌, ◌⊎◌, min, true};
+ghost use Rattle.std.specs.IoError.{error_kind};
+ghost use Rattle.std.specs.declared.io.ErrorKind.TheVariants.{OutOfMemory as NoMemory};
+ghost use Rattle.ipc_devices.specs.Device.{through};
 
 use ipc_devices::{Failures, Reads, Seeks, Writes};
 use std::alloc::AllocError;
@@ -30,15 +33,12 @@ impl<F> OutOfMemory<F> {
 }
 
 impl<F: Failures> Failures for OutOfMemory<F> {
-    ghost known = { F.known };
-
-    ghost still = { F.still };
-
-    ghost memory = { λ d. F.memory d.file };
-
-    ghost failures = { λ d. F.failures d.file };
-
-    ghost given = { λ d. F.given d.file };
+    // Each write that succeeds takes at least one byte.
+    ghost device = { record (through (λ d. d.file) F.device) {
+      grows = true;
+      room = λ d. min d.writes (F.device.room d.file);
+      answered = λ d e. (error_kind e ≡ NoMemory) ⊎ F.device.answered d.file e;
+    } };
 
     fn failures(&self) -> u64 {
         self.file.failures()
@@ -50,17 +50,15 @@ impl<F: Reads> Reads for OutOfMemory<F> {
 
     ghost shows = { λ a n. F.shows a.file n };
 
-    ghost gives_nothing = { λ a. F.gives_nothing a.file };
-
-    ghost gives_in_order = { λ a xs b ys e c. F.gives_in_order a.file xs b.file ys e c.file };
-
-    ghost gives_counted = { λ a xs e b. F.gives_counted a.file xs e b.file };
-
-    ghost gives_fails = { λ a xs e b. F.gives_fails a.file xs e b.file };
-
-    ghost gives_ahead = { λ a xs e b. F.gives_ahead a.file xs e b.file };
-
-    ghost gives_still = { λ a xs e b. F.gives_still a.file xs e b.file };
+    ghost laws = { record {
+      nothing = λ a. F.laws.nothing a.file;
+      in_order = λ a xs b ys e c. F.laws.in_order a.file xs b.file ys e c.file;
+      counted = λ a xs e b. F.laws.counted a.file xs e b.file;
+      fails = λ a xs e b. F.laws.fails a.file xs e b.file;
+      ahead = λ a xs e b. F.laws.ahead a.file xs e b.file;
+      still = λ a xs e b. F.laws.still a.file xs e b.file;
+      names = λ a xs e b. F.laws.names a.file xs e b.file;
+    } };
 
     fn given(&self) -> u64 {
         self.file.given()
@@ -80,11 +78,6 @@ impl<F: Reads> Reads for OutOfMemory<F> {
 }
 
 impl<F: Writes> Writes for OutOfMemory<F> {
-    ghost grows = { true };
-
-    // Each write that succeeds takes at least one byte.
-    ghost room = { λ d. min d.writes (F.room d.file) };
-
     const GROWS: bool = true;
 
     fn write(&mut self, buf: &[u8]) -> io::Result<usize> {

@@ -1,6 +1,7 @@
 //! A device that gives its bytes in pieces.
-ghost use Rattle.std.specs.Prelude.{◌≡◌, drop, true, false, IfOk};
+ghost use Rattle.std.specs.Prelude.{◌≡◌, drop, false, refl, IfOk};
 ghost use Rattle.bench_devices.specs.Pieces.{PiecesGive, pieces_nothing, pieces_in_order};
+ghost use Rattle.ipc_devices.specs.Device.{memory_device};
 ghost use Rattle.ipc_devices.specs.GivesLaws.{never};
 
 use ipc_devices::{Failures, MemFile, Reads};
@@ -37,16 +38,10 @@ impl Pieces {
 }
 
 impl Failures for Pieces {
-    ghost known = { true };
-
     // A read may replace the piece.
-    ghost still = { false };
-
-    ghost memory = { λ p. record { whole = p.piece.inner.items; place = p.piece.position } };
-
-    ghost failures = { λ _. 0 };
-
-    ghost given = { λ p. p.given };
+    ghost device = { record (memory_device
+        (λ p. record { whole = p.piece.inner.items; place = p.piece.position })
+        (λ p. p.given) (λ _. 0)) { is_read_only = false } };
 
     fn failures(&self) -> u64 {
         0
@@ -60,22 +55,19 @@ impl Reads for Pieces {
     // It lends none of its bytes.
     ghost shows = { λ _ _. ⊥ };
 
-    ghost gives_nothing = { λ a. pieces_nothing
-        (drop a.piece.position a.piece.inner.items) a.given };
-
-    ghost gives_in_order = { λ a xs b ys e c. pieces_in_order
-        (drop a.piece.position a.piece.inner.items)
-        (drop b.piece.position b.piece.inner.items)
-        (drop c.piece.position c.piece.inner.items)
-        a.given b.given c.given xs ys e };
-
-    ghost gives_counted = { λ a xs e b g. g.counts };
-
-    ghost gives_fails = { λ a xs e b g. g.succeeds };
-
-    ghost gives_ahead = { λ a xs e b k g. g.takes };
-
-    ghost gives_still = { λ a xs e b k. never k };
+    ghost laws = { record {
+      nothing = λ a. pieces_nothing (drop a.piece.position a.piece.inner.items) a.given;
+      in_order = λ a xs b ys e c. pieces_in_order
+          (drop a.piece.position a.piece.inner.items)
+          (drop b.piece.position b.piece.inner.items)
+          (drop c.piece.position c.piece.inner.items)
+          a.given b.given c.given xs ys e;
+      counted = λ a xs e b g. g.counts;
+      fails = λ a xs e b g. g.succeeds;
+      ahead = λ a xs e b k g. g.takes;
+      still = λ a xs e b k. never k;
+      names = λ a xs e b g. refl;
+    } };
 
     fn given(&self) -> u64 {
         self.given

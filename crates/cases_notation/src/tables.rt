@@ -25,11 +25,11 @@ mod types;
 
 use crate::decoder::Decoder;
 use crate::types::{LEVELS, nullable};
+use ipc_table_views::{Block, Buffer, Endianness, FieldNode, MetadataVersion};
 use ipc_tables::file::Footer;
 use ipc_tables::message::{DictionaryBatch, Message, MessageHeader, RecordBatch};
 use ipc_tables::schema::{DictionaryEncoding, DictionaryKind, Field, KeyValue, Schema};
 use ipc_tables::types::FieldType;
-use ipc_table_views::{Block, Buffer, Endianness, FieldNode, MetadataVersion};
 use serde_json::Value;
 
 /// The bytes of a message.

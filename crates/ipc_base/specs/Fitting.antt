@@ -42,6 +42,7 @@ abbrev mutual
 -- `Fits` and the others as tests, which is what the code computes.
 
 -- `IsNone` as a test.
+
 abbrev pub is_none : IdTrees → Bool
 is_none no_ids = true
 is_none (more_ids i is) = false

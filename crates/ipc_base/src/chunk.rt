@@ -187,7 +187,8 @@ impl<A: Rows + Clone> Chunk<A> {
     pub fn clone(&self) -> Result<Self, AllocError>
         requires { (array copy : A) → A.is_clone array copy → A.rows copy ≡ A.rows array }
         ensures clones { IfOk result (λ copy. AllZip A.is_clone self.now copy) }
-        ensures equal { (test : A → A → Bool) → ((array copy : A) → A.is_clone array copy → IsTrue (test array copy))
+        ensures equal { (test : A → A → Bool)
+            → ((array copy : A) → A.is_clone array copy → IsTrue (test array copy))
             → IfOk result (λ copy. IsTrue (pointwise test self.now copy)) }
     {
         let arrays = self.arrays.clone()?;

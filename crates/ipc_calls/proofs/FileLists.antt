@@ -1,5 +1,5 @@
 -- What the calls of a file writer do, one after the other.
-use Rattle.std.proofs.Common.{◌≡◌, ℕ, Bool, true, false, List, [], ◌∷◌, ◌++◌, Result, Ok, Err, refl, sym, ap, ◌∙◌, subst, append_assoc, append-nil}
+use Rattle.std.proofs.Common.{◌≡◌, Bool, true, false, List, [], ◌∷◌, ◌++◌, Result, Ok, Err, refl, sym, ap, ◌∙◌, subst, append_assoc, append-nil}
 use Rattle.std.specs.Prelude.{Option}
 use Rattle.std.specs.Borrow.{Bor}
 use Rattle.lower.specs.TypeTrees.{Pairs}
@@ -8,7 +8,6 @@ use Rattle.lower_arrays.specs.declared.array.AnyArray.{AnyArray}
 use Rattle.lower_types.specs.declared.Endianness.{Endianness}
 use Rattle.ipc_base.specs.IdTrees.{IdTrees}
 use Rattle.ipc_base.specs.declared.ipc.IpcField.{IpcField}
-use Rattle.ipc_devices.specs.Device.{Memory}
 use Rattle.ipc_devices.specs.declared.fault.Fault.{Fault}
 use Rattle.ipc_model.specs.Batches.{Chunk}
 use Rattle.ipc_model.specs.WriterStates.{IsRun, MayEnd, Outcome, State, Writer, answered, state_after, was_taken, writer_after}
@@ -16,21 +15,23 @@ use Rattle.ipc_model.specs.Writers.{Call, added_by, taken, start_call, write_cal
 use Rattle.ipc_write.specs.Calls.{outcome, state_seen}
 use Rattle.ipc_write.specs.Meaning.{chunk_written}
 use Rattle.ipc_write.specs.declared.stream.WriterState.{WriterState}
+use Rattle.ipc_file_write.specs.Api.{SetsPairs}
 use Rattle.ipc_file_write.specs.Calls.{GrowsBy, HasChosen, IdsAre, writer_seen}
 use Rattle.ipc_file_write.specs.FileWriters.{Agrees, FileSeen, IsSameFile, Remains, TakesPairs}
 use Rattle.ipc_file_write.proofs.CallLists.{finish_moves, start_moves, write_moves}
-use Rattle.ipc_calls.specs.FileCalls.{AreMade, IsMade, KeepsFile, SetsPairs, ended_as, pairs_after, last_pairs, stage_of}
+use Rattle.ipc_calls.specs.FileCalls.{AreMade, IsMade, KeepsFile, ended_as, pairs_after, last_pairs, stage_of}
 use Rattle.ipc_calls.specs.declared.files.FileCall.{FileCall}
 use Rattle.ipc_calls.specs.declared.files.FileCall.TheVariants.{SetCustomMetadata, Start, Write, Finish}
+use Rattle.ipc_devices.specs.Device.{Device}
 
 -- ---- what a call leaves
 
 -- A call that changes the writer's state: it may end so, it leaves the writer as such a call does,
 -- and the file has what it adds.
-pub record Moves {W : Type 0} (known : Bool) (memory : W → Memory) (a : FileSeen W) (call : Call) (o : Outcome) (b : FileSeen W) : Type 0 where
+pub record Moves {W : Type 0} (d : Device W) (a : FileSeen W) (call : Call) (o : Outcome) (b : FileSeen W) : Type 0 where
   pub may : MayEnd call o (state_seen a.state)
   pub after : stage_of b ≡ writer_after call o (stage_of a)
-  pub follows : GrowsBy known memory a b (taken (answered ((call, o) ∷ [])))
+  pub follows : GrowsBy d a b (taken (answered ((call, o) ∷ [])))
   pub keeps : KeepsFile a b a.pairs
 
 module _ {W : Type 0} where
@@ -75,20 +76,20 @@ module _ {W : Type 0} where
   keeps_all a b e =
       subst (λ (w : FileSeen W). KeepsFile a w a.pairs) (sym e) (record { order = refl; fields = refl; metadata = refl; chosen = refl; size = refl; pairs_are = refl; has_chosen = λ h. h })
 
-module _ {W : Type 0} (known : Bool) (memory : W → Memory) where
+module _ {W : Type 0} (d : Device W) where
   -- ---- calls that move the writer
 
-  moves_as : (a b : FileSeen W) (call : Call) (o : Outcome) → MayEnd call o (state_seen a.state) → writer_seen b ≡ writer_after call o (writer_seen a) → GrowsBy known memory a b (taken (answered ((call, o) ∷ [])))
-      → IsSameFile a b → (HasChosen a → HasChosen b) → Moves known memory a call o b
+  moves_as : (a b : FileSeen W) (call : Call) (o : Outcome) → MayEnd call o (state_seen a.state) → writer_seen b ≡ writer_after call o (writer_seen a) → GrowsBy d a b (taken (answered ((call, o) ∷ [])))
+      → IsSameFile a b → (HasChosen a → HasChosen b) → Moves d a call o b
   moves_as a b call o may after follows same chosen =
       record { may = may; after = staged a b (state_after call o (state_seen a.state)) (ap (λ (w : Writer). w.state) after) same.order; follows = follows; keeps = keeps_same a b same chosen }
 
   -- ---- pairs that are set
 
   -- No other part of a writer changes if its pairs are set or refused.
-  stage_stays : (a b : FileSeen W) (pairs : Pairs) (r : Result (Unit {0}) Fault) → SetsPairs known memory a pairs r b → stage_of b ≡ stage_of a
-  stage_stays a b pairs (Ok x) h = staged a b (state_seen a.state) (ap state_seen h.ok.state) h.ok.order
-  stage_stays a b pairs (Err e) h = ap (λ (w : FileSeen W). stage_of w) h.kept
+  stage_stays : (a b : FileSeen W) (pairs : Pairs) (r : Result (Unit {0}) Fault) → SetsPairs d a pairs r b → stage_of b ≡ stage_of a
+  stage_stays a b pairs (Ok x) h = staged a b (state_seen a.state) (ap state_seen h.state.ok.state) h.state.ok.order
+  stage_stays a b pairs (Err e) h = ap (λ (w : FileSeen W). stage_of w) h.state.kept
 
   -- ---- chunks
 
@@ -96,8 +97,8 @@ module _ {W : Type 0} (known : Bool) (memory : W → Memory) where
   taken_first call true ps = ap (λ (cs : List Chunk). cs ++ taken ps) (append-nil (added_by call))
   taken_first call false ps = refl
 
-  grows_then : (a m b : FileSeen W) (call : Call) (o : Outcome) (rest : List (Call × Outcome)) → GrowsBy known memory a m (taken (answered ((call, o) ∷ []))) → GrowsBy known memory m b (taken (answered rest))
-      → GrowsBy known memory a b (taken (answered ((call, o) ∷ rest)))
+  grows_then : (a m b : FileSeen W) (call : Call) (o : Outcome) (rest : List (Call × Outcome)) → GrowsBy d a m (taken (answered ((call, o) ∷ []))) → GrowsBy d m b (taken (answered rest))
+      → GrowsBy d a b (taken (answered ((call, o) ∷ rest)))
   grows_then a m b call o rest one others =
       let own = taken (answered ((call, o) ∷ [])) in
       let more = taken (answered rest) in
@@ -105,40 +106,40 @@ module _ {W : Type 0} (known : Bool) (memory : W → Memory) where
       record {
         followed = λ k base cs at.
             let joined : (cs ++ own) ++ more ≡ cs ++ taken (answered ((call, o) ∷ rest)) = append_assoc cs own more ∙ ap (λ (xs : List Chunk). cs ++ xs) all in
-            subst (λ (xs : List Chunk). Agrees memory b base xs) joined (others.followed k base (cs ++ own) (one.followed k base cs at));
+            subst (λ (xs : List Chunk). Agrees d b base xs) joined (others.followed k base (cs ++ own) (one.followed k base cs at));
       }
 
-  grows_behind : (a m b : FileSeen W) (added : List Chunk) → Remains known memory a m → GrowsBy known memory m b added → GrowsBy known memory a b added
+  grows_behind : (a m b : FileSeen W) (added : List Chunk) → Remains d a m → GrowsBy d m b added → GrowsBy d a b added
   grows_behind a m b added remains others = record { followed = λ k base cs at. others.followed k base cs (remains.kept k true base cs at) }
 
   -- ---- runs
 
-  runs_then : (a m b : FileSeen W) (call : Call) (o : Outcome) (rest : List (Call × Outcome)) → Moves known memory a call o m → IsRun (stage_of m) rest (stage_of b) → IsRun (stage_of a) ((call, o) ∷ rest) (stage_of b)
+  runs_then : (a m b : FileSeen W) (call : Call) (o : Outcome) (rest : List (Call × Outcome)) → Moves d a call o m → IsRun (stage_of m) rest (stage_of b) → IsRun (stage_of a) ((call, o) ∷ rest) (stage_of b)
   runs_then a m b call o rest moved run = (moved.may, subst (λ (w : Writer). IsRun w rest (stage_of b)) moved.after run)
 
 -- ---- calls by what each says of itself
 
-module _ {W : Type 0} (known grows : Bool) (failures room : W → ℕ) (memory : W → Memory) where
+module _ {W : Type 0} (d : Device W) where
   abbrev Made : FileSeen W → FileCall → Result (Unit {0}) Fault → FileSeen W → Type 0
-  Made = IsMade known grows failures room memory
+  Made = IsMade d
 
   abbrev AllMade : FileSeen W → List FileCall → List (Result (Unit {0}) Fault) → FileSeen W → Type 0
-  AllMade = AreMade known grows failures room memory
+  AllMade = AreMade d
 
-  start_one : (a b : FileSeen W) (r : Result (Unit {0}) Fault) → Made a Start r b → Moves known memory a start_call (outcome r) b
+  start_one : (a b : FileSeen W) (r : Result (Unit {0}) Fault) → Made a Start r b → Moves d a start_call (outcome r) b
   start_one a b r h =
-      let m = start_moves known grows failures room memory a b r h.first h.step h.ok h.means in
-      moves_as known memory a b start_call (outcome r) m.may m.after m.follows m.same m.chosen
+      let m = start_moves d a b r h.state.first h.device h.state.ok h.content in
+      moves_as d a b start_call (outcome r) m.may m.after m.follows m.same m.chosen
 
-  write_one : (a b : FileSeen W) (chunk : Bor (List AnyArray)) (ids : Option (Bor (List IpcField))) (r : Result (Unit {0}) Fault) → Made a (Write chunk ids) r b → Moves known memory a (write_call (chunk_written chunk.now)) (outcome r) b
+  write_one : (a b : FileSeen W) (chunk : Bor (List AnyArray)) (ids : Option (Bor (List IpcField))) (r : Result (Unit {0}) Fault) → Made a (Write chunk ids) r b → Moves d a (write_call (chunk_written chunk.now)) (outcome r) b
   write_one a b chunk ids r h =
-      let m = write_moves known grows failures room memory a b chunk r h.first h.step h.means in
-      moves_as known memory a b (write_call (chunk_written chunk.now)) (outcome r) m.may m.after m.follows m.same m.chosen
+      let m = write_moves d a b chunk r h.state h.device h.content in
+      moves_as d a b (write_call (chunk_written chunk.now)) (outcome r) m.may m.after m.follows m.same m.chosen
 
-  finish_one : (a b : FileSeen W) (r : Result (Unit {0}) Fault) → Made a Finish r b → Moves known memory a finish_call (outcome r) b
+  finish_one : (a b : FileSeen W) (r : Result (Unit {0}) Fault) → Made a Finish r b → Moves d a finish_call (outcome r) b
   finish_one a b r h =
-      let m = finish_moves known grows failures room memory a b r h.first h.step h.ok h.means in
-      moves_as known memory a b finish_call (outcome r) m.may m.after m.follows m.same m.chosen
+      let m = finish_moves d a b r h.state.first h.device h.state.ok h.content in
+      moves_as d a b finish_call (outcome r) m.may m.after m.follows m.same m.chosen
 
   -- ---- lists
 
@@ -147,27 +148,27 @@ module _ {W : Type 0} (known grows : Bool) (failures room : W → ℕ) (memory :
   made_run a b [] (r ∷ rs) h = absurd h
   made_run a b (call ∷ calls) [] h = absurd h
   made_run a b (SetCustomMetadata pairs ∷ calls) (r ∷ rs) h =
-      subst (λ (w : Writer). IsRun w (ended_as calls rs) (stage_of b)) (stage_stays known memory a h.0 (pairs_of pairs.now.entries) r h.1.0) (made_run h.0 b calls rs h.1.1)
-  made_run a b (Start ∷ calls) (r ∷ rs) h = runs_then known memory a h.0 b start_call (outcome r) (ended_as calls rs) (start_one a h.0 r h.1.0) (made_run h.0 b calls rs h.1.1)
+      subst (λ (w : Writer). IsRun w (ended_as calls rs) (stage_of b)) (stage_stays d a h.0 (pairs_of pairs.now.entries) r h.1.0) (made_run h.0 b calls rs h.1.1)
+  made_run a b (Start ∷ calls) (r ∷ rs) h = runs_then d a h.0 b start_call (outcome r) (ended_as calls rs) (start_one a h.0 r h.1.0) (made_run h.0 b calls rs h.1.1)
   made_run a b (Write chunk ids ∷ calls) (r ∷ rs) h =
-      runs_then known memory a h.0 b (write_call (chunk_written chunk.now)) (outcome r) (ended_as calls rs) (write_one a h.0 chunk ids r h.1.0) (made_run h.0 b calls rs h.1.1)
-  made_run a b (Finish ∷ calls) (r ∷ rs) h = runs_then known memory a h.0 b finish_call (outcome r) (ended_as calls rs) (finish_one a h.0 r h.1.0) (made_run h.0 b calls rs h.1.1)
+      runs_then d a h.0 b (write_call (chunk_written chunk.now)) (outcome r) (ended_as calls rs) (write_one a h.0 chunk ids r h.1.0) (made_run h.0 b calls rs h.1.1)
+  made_run a b (Finish ∷ calls) (r ∷ rs) h = runs_then d a h.0 b finish_call (outcome r) (ended_as calls rs) (finish_one a h.0 r h.1.0) (made_run h.0 b calls rs h.1.1)
 
-  pub made_follow : (a b : FileSeen W) (calls : List FileCall) (rs : List (Result (Unit {0}) Fault)) → AllMade a calls rs b → GrowsBy known memory a b (taken (answered (ended_as calls rs)))
-  made_follow a b [] [] h = record { followed = λ k base cs at. subst (λ (w : FileSeen W). Agrees memory w base (cs ++ [])) (sym h) (subst (λ (xs : List Chunk). Agrees memory a base xs) (sym (append-nil cs)) at) }
+  pub made_follow : (a b : FileSeen W) (calls : List FileCall) (rs : List (Result (Unit {0}) Fault)) → AllMade a calls rs b → GrowsBy d a b (taken (answered (ended_as calls rs)))
+  made_follow a b [] [] h = record { followed = λ k base cs at. subst (λ (w : FileSeen W). Agrees d w base (cs ++ [])) (sym h) (subst (λ (xs : List Chunk). Agrees d a base xs) (sym (append-nil cs)) at) }
   made_follow a b [] (r ∷ rs) h = absurd h
   made_follow a b (call ∷ calls) [] h = absurd h
-  made_follow a b (SetCustomMetadata pairs ∷ calls) (r ∷ rs) h = grows_behind known memory a h.0 b (taken (answered (ended_as calls rs))) h.1.0.means (made_follow h.0 b calls rs h.1.1)
+  made_follow a b (SetCustomMetadata pairs ∷ calls) (r ∷ rs) h = grows_behind d a h.0 b (taken (answered (ended_as calls rs))) h.1.0.content (made_follow h.0 b calls rs h.1.1)
   made_follow a b (Start ∷ calls) (r ∷ rs) h =
-      let one = start_one a h.0 r h.1.0 in grows_then known memory a h.0 b start_call (outcome r) (ended_as calls rs) one.follows (made_follow h.0 b calls rs h.1.1)
+      let one = start_one a h.0 r h.1.0 in grows_then d a h.0 b start_call (outcome r) (ended_as calls rs) one.follows (made_follow h.0 b calls rs h.1.1)
   made_follow a b (Write chunk ids ∷ calls) (r ∷ rs) h =
-      let one = write_one a h.0 chunk ids r h.1.0 in grows_then known memory a h.0 b (write_call (chunk_written chunk.now)) (outcome r) (ended_as calls rs) one.follows (made_follow h.0 b calls rs h.1.1)
+      let one = write_one a h.0 chunk ids r h.1.0 in grows_then d a h.0 b (write_call (chunk_written chunk.now)) (outcome r) (ended_as calls rs) one.follows (made_follow h.0 b calls rs h.1.1)
   made_follow a b (Finish ∷ calls) (r ∷ rs) h =
-      let one = finish_one a h.0 r h.1.0 in grows_then known memory a h.0 b finish_call (outcome r) (ended_as calls rs) one.follows (made_follow h.0 b calls rs h.1.1)
+      let one = finish_one a h.0 r h.1.0 in grows_then d a h.0 b finish_call (outcome r) (ended_as calls rs) one.follows (made_follow h.0 b calls rs h.1.1)
 
   keeps_one : (a b : FileSeen W) (call : FileCall) (r : Result (Unit {0}) Fault) → Made a call r b → KeepsFile a b (pairs_after call r a.pairs)
-  keeps_one a b (SetCustomMetadata pairs) (Ok x) h = keeps_ok a b (pairs_of pairs.now.entries) h.ok
-  keeps_one a b (SetCustomMetadata pairs) (Err e) h = keeps_all a b h.kept
+  keeps_one a b (SetCustomMetadata pairs) (Ok x) h = keeps_ok a b (pairs_of pairs.now.entries) h.state.ok
+  keeps_one a b (SetCustomMetadata pairs) (Err e) h = keeps_all a b h.state.kept
   keeps_one a b Start r h = let one = start_one a b r h in one.keeps
   keeps_one a b (Write chunk ids) r h = let one = write_one a b chunk ids r h in one.keeps
   keeps_one a b Finish r h = let one = finish_one a b r h in one.keeps

@@ -1,6 +1,6 @@
 -- Whole streams and whole files in memory, by the calls of their writers.
-use Rattle.std.proofs.Common.{◌≡◌, ℕ, ◌-◌, true, List, [], ◌∷◌, ◌++◌, Result, Ok, Err, refl, sym, ap, ◌∙◌, subst}
-use Rattle.std.specs.Prelude.{Vec, vec_capacity, vec_len}
+use Rattle.std.proofs.Common.{◌≡◌, ℕ, List, [], ◌∷◌, ◌++◌, Result, Ok, Err, refl, sym, ap, ◌∙◌, subst}
+use Rattle.std.specs.Prelude.{Vec}
 use Rattle.std.specs.declared.alloc.Global.{Global}
 use Rattle.lower.specs.TypeTrees.{FieldTrees, Pairs}
 use Rattle.lower_types.specs.declared.Endianness.{Endianness}
@@ -24,10 +24,11 @@ use Rattle.ipc_calls.specs.WholeLaws.{FileOfCallsLaw, FinishFile, FinishStream, 
 use Rattle.ipc_calls.specs.declared.streams.WriterCall.TheVariants.{Start, Write, Finish}
 use Rattle.ipc_calls.proofs.StreamLists as stream
 use Rattle.ipc_calls.proofs.FileLists as file
+use Rattle.ipc_write.specs.Vectors.{vectors}
 
 -- ---- streams
 
-stream_ended : (b : WriterSeen (Vec ℕ Global)) (head : Head) (chunks : List Chunk) → b.state ≡ Finished → Agrees vector b [] head chunks → IsFinished b.device.items head chunks
+stream_ended : (b : WriterSeen (Vec ℕ Global)) (head : Head) (chunks : List Chunk) → b.state ≡ Finished → Agrees vectors b [] head chunks → IsFinished b.device.items head chunks
 stream_ended b head chunks is at =
     let ended : HasEnded at.bytes head chunks = subst (λ (s : WriterState). StreamIs s b at.bytes head chunks) is at.stream in
     let bytes : at.bytes ≡ b.device.items = sym at.held ∙ vector_before b.device in
@@ -35,9 +36,9 @@ stream_ended b head chunks is at =
 
 pub whole_stream : StreamOfCallsLaw
 whole_stream a b calls answers h f =
-    let leads = stream.made_lead true true (λ v. 0) (λ v. vec_capacity v - vec_len v) vector a b calls answers f.made in
+    let leads = stream.made_lead vectors a b calls answers f.made in
     let none : before (vector a.device) ≡ [] = vector_before a.device ∙ f.empty in
-    let first : Agrees vector a [] h [] = subst (λ (xs : List ℕ). Agrees vector a xs h []) none (f.fresh.agrees h) in
+    let first : Agrees vectors a [] h [] = subst (λ (xs : List ℕ). Agrees vectors a xs h []) none (f.fresh.agrees h) in
     stream_ended b (streams.head_left a.order calls answers h) (taken (answered (streams.ended_as calls answers))) f.finished (leads.followed refl [] h [] first)
 
 -- If each `start` has one head, the stream has it.
@@ -59,10 +60,10 @@ file_as bytes cs o p fs gs es ds is js ps qs a b c d e h = rw (a, b, c, d, e) h
 pub whole_file : FileOfCallsLaw
 whole_file a b calls answers fs es is order of f =
     let chunks = taken (answered (files.ended_as calls answers)) in
-    let keeps = file.made_keep true true (λ v. 0) (λ v. vec_capacity v - vec_len v) vector a b calls answers f.made in
-    let follows = file.made_follow true true (λ v. 0) (λ v. vec_capacity v - vec_len v) vector a b calls answers f.made in
+    let keeps = file.made_keep vectors a b calls answers f.made in
+    let follows = file.made_follow vectors a b calls answers f.made in
     let none : before (vector a.device) ≡ [] = vector_before a.device ∙ f.empty in
-    let first : FileAgrees vector a [] [] = subst (λ (xs : List ℕ). FileAgrees vector a xs []) none f.nothing.agrees in
+    let first : FileAgrees vectors a [] [] = subst (λ (xs : List ℕ). FileAgrees vectors a xs []) none f.nothing.agrees in
     let had : HasChosen a = subst (λ (s : WriterState). IdsAre s a.ids a.chosen) (sym f.new) tt in
     let ends : EndsFile b b.device.items = finished_before b b.device f.finished refl in
     let left : b.pairs ≡ files.last_pairs calls answers [] = keeps.pairs_are ∙ ap (λ (ps : Pairs). files.last_pairs calls answers ps) of.pairs_are in

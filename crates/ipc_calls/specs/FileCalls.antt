@@ -1,48 +1,30 @@
 -- Lists of calls of a file writer, those that set its metadata pairs
 -- included; each `write` has ids or none.
 -- (Arrow columnar format, "IPC File Format".)
-use Rattle.std.specs.Prelude.{◌≡◌, ℕ, Bool, List, [], ◌∷◌, take, Option, Result, Ok, Err, IfErr, OnErr, OnOk}
+use Rattle.std.specs.Prelude.{◌≡◌, ℕ, List, [], ◌∷◌, take, Result, Ok, Err}
 use Rattle.lower.specs.TypeTrees.{Pairs}
 use Rattle.lower.specs.TypeViews.{pairs_of}
-use Rattle.lower_arrays.specs.declared.array.AnyArray.{AnyArray}
-use Rattle.ipc_base.specs.IdTrees.{IdTrees}
-use Rattle.ipc_devices.specs.Device.{Memory}
 use Rattle.ipc_devices.specs.declared.fault.Fault.{Fault}
 use Rattle.ipc_model.specs.WriterStates.{Outcome, Writer}
 use Rattle.ipc_model.specs.Writers.{Call, start_call, write_call, finish_call}
 use Rattle.ipc_write.specs.Calls.{outcome, state_seen, writer_in}
 use Rattle.ipc_write.specs.Meaning.{chunk_written}
-use Rattle.ipc_write.specs.Writers.{fault_unless_started, seen_ids}
-use Rattle.ipc_file_write.specs.Calls.{DoesFinish, DoesStart, HasChosen}
-use Rattle.ipc_file_write.specs.FileWriters.{FileSeen, Remains, StateComesFirst, TakesNoPairs, TakesPairs, fault_if_over}
-use Rattle.ipc_file_write.specs.Writes.{Appends, NamesOne, SendsColumns, WritesExactly}
+use Rattle.ipc_write.specs.Writers.{seen_ids}
+use Rattle.ipc_file_write.specs.Api.{FinishesFile, SetsPairs, StartsFile, WritesToFile}
+use Rattle.ipc_file_write.specs.Calls.{HasChosen}
+use Rattle.ipc_file_write.specs.FileWriters.{FileSeen}
 use Rattle.ipc_calls.specs.declared.files.FileCall.{FileCall}
 use Rattle.ipc_calls.specs.declared.files.FileCall.TheVariants.{SetCustomMetadata, Start, Write, Finish}
+use Rattle.ipc_devices.specs.Device.{Device}
 
 -- ---- one call
 
--- The contract of `set_custom_metadata`.
-pub record SetsPairs {W : Type 0} (known : Bool) (memory : W → Memory) (a : FileSeen W) (pairs : Pairs) (r : Result Unit Fault) (b : FileSeen W) : Type 0 where
-  pub first : StateComesFirst (fault_if_over a.state) a r b
-  pub ok : OnOk r (TakesPairs a b pairs)
-  pub only : IfErr r (TakesNoPairs a pairs)
-  pub kept : OnErr r (b ≡ a)
-  pub means : Remains known memory a b
-
--- The contract of `write` with these ids.
-pub record WritesWith {W : Type 0} (known grows : Bool) (failures room : W → ℕ) (memory : W → Memory) (a : FileSeen W) (columns : List AnyArray) (ids : Option IdTrees) (r : Result Unit Fault) (b : FileSeen W) : Type 0 where
-  pub first : StateComesFirst (fault_unless_started a.state) a r b
-  pub step : SendsColumns known grows failures room memory a r b columns
-  pub exact : WritesExactly a columns ids r
-  pub named : IfErr r (NamesOne a columns)
-  pub means : Appends known memory a r b (chunk_written columns)
-
 -- A call returned r and left the writer b, by the call's contract.
-abbrev pub IsMade : {W : Type 0} → (known grows : Bool) (failures room : W → ℕ) (memory : W → Memory) → FileSeen W → FileCall → Result Unit Fault → FileSeen W → Type 0
-IsMade known grows failures room memory a (SetCustomMetadata pairs) r b = SetsPairs known memory a (pairs_of pairs.now.entries) r b
-IsMade known grows failures room memory a Start r b = DoesStart known grows failures room memory a r b
-IsMade known grows failures room memory a (Write chunk ids) r b = WritesWith known grows failures room memory a chunk.now (seen_ids ids) r b
-IsMade known grows failures room memory a Finish r b = DoesFinish known grows failures room memory a r b
+abbrev pub IsMade : {W : Type 0} → (d : Device W) → FileSeen W → FileCall → Result Unit Fault → FileSeen W → Type 0
+IsMade d a (SetCustomMetadata pairs) r b = SetsPairs d a (pairs_of pairs.now.entries) r b
+IsMade d a Start r b = StartsFile d a r b
+IsMade d a (Write chunk ids) r b = WritesToFile d a chunk.now (seen_ids ids) r b
+IsMade d a Finish r b = FinishesFile d a r b
 
 -- ---- what theorems know of calls
 
@@ -74,17 +56,17 @@ stage_of w = writer_in w.order (state_seen w.state)
 -- ---- calls one after the other
 
 -- Each call is made on the writer that the call before it left, with these results.
-abbrev pub AreMade : {W : Type 0} → (known grows : Bool) (failures room : W → ℕ) (memory : W → Memory) → FileSeen W → List FileCall → List (Result Unit Fault) → FileSeen W → Type 0
-AreMade known grows failures room memory a [] [] b = b ≡ a
-AreMade {W = W} known grows failures room memory a (call ∷ calls) (r ∷ rs) b =
-    (m : FileSeen W) × (IsMade known grows failures room memory a call r m × AreMade known grows failures room memory m calls rs b)
-AreMade known grows failures room memory a _ _ b = ⊥
+abbrev pub AreMade : {W : Type 0} → (d : Device W) → FileSeen W → List FileCall → List (Result Unit Fault) → FileSeen W → Type 0
+AreMade d a [] [] b = b ≡ a
+AreMade {W = W} d a (call ∷ calls) (r ∷ rs) b =
+    (m : FileSeen W) × (IsMade d a call r m × AreMade d m calls rs b)
+AreMade d a _ _ b = ⊥
 
 -- The first of some calls are made, and the others aren't.
-pub record FirstAreMade {W : Type 0} (known grows : Bool) (failures room : W → ℕ) (memory : W → Memory) (a : FileSeen W) (calls : List FileCall) (b : FileSeen W) : Type 0 where
+pub record FirstAreMade {W : Type 0} (d : Device W) (a : FileSeen W) (calls : List FileCall) (b : FileSeen W) : Type 0 where
   pub count : ℕ
   pub answers : List (Result Unit Fault)
-  pub made : AreMade known grows failures room memory a (take count calls) answers b
+  pub made : AreMade d a (take count calls) answers b
 
 -- A writer keeps its schema, ids, byte order and size, and its footer will have these pairs.
 pub record KeepsFile {W : Type 0} (a b : FileSeen W) (pairs : Pairs) : Type 0 where

@@ -1,7 +1,7 @@
 -- Lists of calls of a stream writer; each `start` has a schema and ids of its
 -- own, each `write` ids or none.
 -- (Arrow columnar format, "IPC Streaming Format".)
-use Rattle.std.specs.Prelude.{◌≡◌, ℕ, Bool, IsTrue, List, [], ◌∷◌, ◌++◌, take, Option, None, Some, option_map, Result, Ok, Err, Vec}
+use Rattle.std.specs.Prelude.{◌≡◌, ℕ, IsTrue, List, [], ◌∷◌, ◌++◌, take, Option, None, Some, option_map, Result, Ok, Err, Vec}
 use Rattle.std.specs.Borrow.{Bor}
 use Rattle.std.specs.declared.alloc.Global.{Global}
 use Rattle.lower.specs.TypeTrees.{FieldTrees}
@@ -10,7 +10,6 @@ use Rattle.lower.specs.declared.datatypes.schema.Schema.{Schema}
 use Rattle.lower_types.specs.declared.Endianness.{Endianness}
 use Rattle.ipc_base.specs.IdTrees.{IdTrees, all_ids_view}
 use Rattle.ipc_base.specs.declared.ipc.IpcField.{IpcField}
-use Rattle.ipc_devices.specs.Device.{Memory}
 use Rattle.ipc_devices.specs.declared.fault.Fault.{Fault}
 use Rattle.ipc_model.specs.Batches.{Chunk}
 use Rattle.ipc_model.specs.Streams.{Head}
@@ -19,11 +18,13 @@ use Rattle.ipc_model.specs.Writers.{Call, start_call, write_call, finish_call}
 use Rattle.ipc_schema_write.specs.DefaultIds.{default_all}
 use Rattle.ipc_schema_write.specs.WriterAnswers.{written_head_as}
 use Rattle.ipc_write.specs.Agreement.{Agrees}
-use Rattle.ipc_write.specs.Calls.{DoesStart, DoesWrite, DoesFinish, outcome, state_seen, writer_in}
+use Rattle.ipc_write.specs.Api.{FinishesStream, StartsStream, WritesToStream}
+use Rattle.ipc_write.specs.Calls.{outcome, state_seen, writer_in}
 use Rattle.ipc_write.specs.Meaning.{chunk_written}
 use Rattle.ipc_write.specs.Writers.{WriterSeen, seen_ids}
 use Rattle.ipc_calls.specs.declared.streams.WriterCall.{WriterCall}
 use Rattle.ipc_calls.specs.declared.streams.WriterCall.TheVariants.{Start, Write, Finish}
+use Rattle.ipc_devices.specs.Device.{Device}
 
 -- ---- ids and heads
 
@@ -56,6 +57,7 @@ head_left order _ _ h = h
 -- ---- what theorems know of calls
 
 -- A call without its schema and ids; a `write` has its chunk.
+
 abbrev pub call_seen : WriterCall → Call
 call_seen (Start schema ids) = start_call
 call_seen (Write chunk ids) = write_call (chunk_written chunk.now)
@@ -73,26 +75,26 @@ stage_of w = writer_in w.order (state_seen w.state)
 -- ---- calls one after the other
 
 -- A call returned r and left the writer b, by the call's contract.
-abbrev pub IsMade : {W : Type 0} → (known grows : Bool) (failures room : W → ℕ) (memory : W → Memory) → WriterSeen W → WriterCall → Result Unit Fault → WriterSeen W → Type 0
-IsMade known grows failures room memory a (Start schema ids) r b =
-    DoesStart known grows failures room memory a (fields_view schema.now.fields.items) (pairs_of schema.now.metadata.entries) (ids_for (vec_ids ids) (fields_view schema.now.fields.items)) r b
-IsMade known grows failures room memory a (Write chunk ids) r b = DoesWrite known grows failures room memory a chunk.now (seen_ids ids) r b
-IsMade known grows failures room memory a Finish r b = DoesFinish known grows failures room memory a r b
+abbrev pub IsMade : {W : Type 0} → (d : Device W) → WriterSeen W → WriterCall → Result Unit Fault → WriterSeen W → Type 0
+IsMade d a (Start schema ids) r b =
+    StartsStream d a (fields_view schema.now.fields.items) (pairs_of schema.now.metadata.entries) (ids_for (vec_ids ids) (fields_view schema.now.fields.items)) r b
+IsMade d a (Write chunk ids) r b = WritesToStream d a chunk.now (seen_ids ids) r b
+IsMade d a Finish r b = FinishesStream d a r b
 
 -- Each call is made on the writer that the call before it left, with these results.
-abbrev pub AreMade : {W : Type 0} → (known grows : Bool) (failures room : W → ℕ) (memory : W → Memory) → WriterSeen W → List WriterCall → List (Result Unit Fault) → WriterSeen W → Type 0
-AreMade known grows failures room memory a [] [] b = b ≡ a
-AreMade {W = W} known grows failures room memory a (call ∷ calls) (r ∷ rs) b =
-    (m : WriterSeen W) × (IsMade known grows failures room memory a call r m × AreMade known grows failures room memory m calls rs b)
-AreMade known grows failures room memory a _ _ b = ⊥
+abbrev pub AreMade : {W : Type 0} → (d : Device W) → WriterSeen W → List WriterCall → List (Result Unit Fault) → WriterSeen W → Type 0
+AreMade d a [] [] b = b ≡ a
+AreMade {W = W} d a (call ∷ calls) (r ∷ rs) b =
+    (m : WriterSeen W) × (IsMade d a call r m × AreMade d m calls rs b)
+AreMade d a _ _ b = ⊥
 
 -- The first of some calls are made, and the others aren't.
-pub record FirstAreMade {W : Type 0} (known grows : Bool) (failures room : W → ℕ) (memory : W → Memory) (a : WriterSeen W) (calls : List WriterCall) (b : WriterSeen W) : Type 0 where
+pub record FirstAreMade {W : Type 0} (d : Device W) (a : WriterSeen W) (calls : List WriterCall) (b : WriterSeen W) : Type 0 where
   pub count : ℕ
   pub answers : List (Result Unit Fault)
-  pub made : AreMade known grows failures room memory a (take count calls) answers b
+  pub made : AreMade d a (take count calls) answers b
 
 -- From writer a to b, calls append these chunks to the stream, and its head becomes what `left`
 -- makes of it. A writer that has written nothing agrees with every head.
-pub record LeadsTo {W : Type 0} (known : Bool) (memory : W → Memory) (a b : WriterSeen W) (left : Head → Head) (added : List Chunk) : Type 0 where
-  pub followed : IsTrue known → (base : List ℕ) (head : Head) (chunks : List Chunk) → Agrees memory a base head chunks → Agrees memory b base (left head) (chunks ++ added)
+pub record LeadsTo {W : Type 0} (d : Device W) (a b : WriterSeen W) (left : Head → Head) (added : List Chunk) : Type 0 where
+  pub followed : IsTrue d.is_memory → (base : List ℕ) (head : Head) (chunks : List Chunk) → Agrees d a base head chunks → Agrees d b base (left head) (chunks ++ added)

@@ -1,6 +1,6 @@
 -- Whole streams and whole files in memory, by any list of calls of their writers.
 -- (Arrow columnar format, "IPC Streaming Format" and "IPC File Format".)
-use Rattle.std.specs.Prelude.{◌≡◌, ℕ, ◌-◌, true, List, [], ◌∷◌, Result, Vec, vec_capacity, vec_len}
+use Rattle.std.specs.Prelude.{◌≡◌, ℕ, List, [], ◌∷◌, Result, Vec}
 use Rattle.std.specs.declared.alloc.Global.{Global}
 use Rattle.lower.specs.TypeTrees.{FieldTrees, Pairs}
 use Rattle.lower_types.specs.declared.Endianness.{Endianness}
@@ -12,20 +12,21 @@ use Rattle.ipc_model.specs.Writers.{IsFinished, taken}
 use Rattle.ipc_write.specs.Agreement.{IsFresh}
 use Rattle.ipc_write.specs.Writers.{WriterSeen}
 use Rattle.ipc_write.specs.declared.stream.WriterState.TheVariants.{New, Finished}
-use Rattle.ipc_file_write.specs.Calls.{IsWrittenFile, vector}
+use Rattle.ipc_file_write.specs.Calls.{IsWrittenFile}
 use Rattle.ipc_file_write.specs.FileWriters.{FileSeen, HasNothing, IsFileOf}
 use Rattle.ipc_calls.specs.StreamCalls as streams
 use Rattle.ipc_calls.specs.FileCalls as files
 use Rattle.ipc_calls.specs.declared.streams.WriterCall.{WriterCall}
 use Rattle.ipc_calls.specs.declared.streams.WriterCall.TheVariants.{Start, Write, Finish}
 use Rattle.ipc_calls.specs.declared.files.FileCall.{FileCall}
+use Rattle.ipc_write.specs.Vectors.{vectors}
 
 -- Calls of a new stream writer to empty memory, one of which finished the stream.
 pub record FinishStream (a b : WriterSeen (Vec ℕ Global)) (calls : List WriterCall) (answers : List (Result Unit Fault)) : Type 0 where
   pub new : a.state ≡ New
-  pub fresh : IsFresh vector a
+  pub fresh : IsFresh vectors a
   pub empty : a.device.items ≡ []
-  pub made : streams.AreMade true true (λ v. 0) (λ v. vec_capacity v - vec_len v) vector a calls answers b
+  pub made : streams.AreMade vectors a calls answers b
   pub finished : b.state ≡ Finished
 
 -- The bytes are a whole stream of the last schema and ids that were started, and of exactly the
@@ -37,9 +38,9 @@ StreamOfCallsLaw = (a b : WriterSeen (Vec ℕ Global)) (calls : List WriterCall)
 -- Calls of a new file writer to empty memory, one of which finished the file.
 pub record FinishFile (a b : FileSeen (Vec ℕ Global)) (calls : List FileCall) (answers : List (Result Unit Fault)) : Type 0 where
   pub new : a.state ≡ New
-  pub nothing : HasNothing vector a
+  pub nothing : HasNothing vectors a
   pub empty : a.device.items ≡ []
-  pub made : files.AreMade true true (λ v. 0) (λ v. vec_capacity v - vec_len v) vector a calls answers b
+  pub made : files.AreMade vectors a calls answers b
   pub finished : b.state ≡ Finished
 
 -- The bytes are a whole file of the schema, the ids and the pairs that were last set, and of

@@ -3,9 +3,10 @@ ghost use Rattle.std.specs.Prelude.{◌≡◌, IfOk, OnErr};
 ghost use Rattle.lower.specs.TypeViews.{pairs_of};
 ghost use Rattle.ipc_model.specs.WriterStates.{IsRun, answered};
 ghost use Rattle.ipc_model.specs.Writers.{taken};
+ghost use Rattle.ipc_file_write.specs.Api.{SetsPairs};
 ghost use Rattle.ipc_file_write.specs.Calls.{GrowsBy};
 ghost use Rattle.ipc_file_write.specs.FileWriters.{seen};
-ghost use Rattle.ipc_calls.specs.FileCalls.{AreMade, FirstAreMade, IsMade, KeepsFile, SetsPairs};
+ghost use Rattle.ipc_calls.specs.FileCalls.{AreMade, FirstAreMade, IsMade, KeepsFile};
 ghost use Rattle.ipc_calls.specs.FileCalls.{ended_as, last_pairs, stage_of};
 
 use ipc_base::chunk::Chunk;
@@ -35,7 +36,7 @@ fn set_pairs<W: Writes + Drop>(
     writer: &mut FileWriter<W>,
     pairs: &Metadata,
 ) -> Result<Result<(), Fault>, AllocError>
-    ensures made { IfOk result (λ answer. SetsPairs W.known W.memory (seen writer.old)
+    ensures made { IfOk result (λ answer. SetsPairs W.device (seen writer.old)
         (pairs_of pairs.now.entries) answer (seen writer.new)) }
     ensures none { OnErr result (seen writer.new ≡ seen writer.old) }
 {
@@ -50,7 +51,7 @@ pub fn run_call<W: Writes + Drop>(
     writer: &mut FileWriter<W>,
     call: &FileCall,
 ) -> Result<Result<(), Fault>, AllocError>
-    ensures made { IfOk result (λ answer. IsMade W.known W.grows W.failures W.room W.memory
+    ensures made { IfOk result (λ answer. IsMade W.device
         (seen writer.old) call.now answer (seen writer.new)) }
     ensures none { OnErr result (seen writer.new ≡ seen writer.old) }
 {
@@ -75,15 +76,15 @@ pub fn run_calls<W: Writes + Drop>(
     writer: &mut FileWriter<W>,
     calls: &[FileCall],
 ) -> Result<Vec<Result<(), Fault>>, AllocError>
-    ensures made { IfOk result (λ answers. AreMade W.known W.grows W.failures W.room W.memory
+    ensures made { IfOk result (λ answers. AreMade W.device
         (seen writer.old) calls.now answers.items (seen writer.new)) }
     ensures run { IfOk result (λ answers. IsRun (stage_of (seen writer.old))
         (ended_as calls.now answers.items) (stage_of (seen writer.new))) }
-    ensures follows { IfOk result (λ answers. GrowsBy W.known W.memory
+    ensures follows { IfOk result (λ answers. GrowsBy W.device
         (seen writer.old) (seen writer.new) (taken (answered (ended_as calls.now answers.items)))) }
     ensures keeps { IfOk result (λ answers. KeepsFile (seen writer.old) (seen writer.new)
         (last_pairs calls.now answers.items (seen writer.old).pairs)) }
-    ensures refused { OnErr result (FirstAreMade W.known W.grows W.failures W.room W.memory
+    ensures refused { OnErr result (FirstAreMade W.device
         (seen writer.old) calls.now (seen writer.new)) }
 {
     let mut answers = Vec::new(alloc);

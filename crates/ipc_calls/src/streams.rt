@@ -4,7 +4,7 @@ ghost use Rattle.lower.specs.TypeViews.{fields_view, pairs_of};
 ghost use Rattle.ipc_base.specs.IdTrees.{all_ids_view};
 ghost use Rattle.ipc_model.specs.WriterStates.{IsRun, answered};
 ghost use Rattle.ipc_model.specs.Writers.{taken};
-ghost use Rattle.ipc_write.specs.Calls.{DoesStart};
+ghost use Rattle.ipc_write.specs.Api.{StartsStream};
 ghost use Rattle.ipc_write.specs.Writers.{seen};
 ghost use Rattle.ipc_calls.specs.StreamCalls.{AreMade, FirstAreMade, IsMade, LeadsTo};
 ghost use Rattle.ipc_calls.specs.StreamCalls.{ended_as, head_left, ids_for, stage_of, vec_ids};
@@ -46,7 +46,7 @@ fn start_with<W: Writes + Drop>(
     ids: Option<&Vec<IpcField>>,
 ) -> Result<Result<(), Fault>, AllocError>
     ensures made { let fields = fields_view schema.now.fields.items in
-        IfOk result (λ answer. DoesStart W.known W.grows W.failures W.room W.memory
+        IfOk result (λ answer. StartsStream W.device
         (seen writer.old) fields (pairs_of schema.now.metadata.entries)
         (ids_for (vec_ids ids.entry) fields) answer (seen writer.new)) }
     ensures none { OnErr result (seen writer.new ≡ seen writer.old) }
@@ -62,7 +62,7 @@ pub fn run_call<W: Writes + Drop>(
     writer: &mut StreamWriter<W>,
     call: &WriterCall,
 ) -> Result<Result<(), Fault>, AllocError>
-    ensures made { IfOk result (λ answer. IsMade W.known W.grows W.failures W.room W.memory
+    ensures made { IfOk result (λ answer. IsMade W.device
         (seen writer.old) call.now answer (seen writer.new)) }
     ensures none { OnErr result (seen writer.new ≡ seen writer.old) }
 {
@@ -85,15 +85,14 @@ pub fn run_calls<W: Writes + Drop>(
     writer: &mut StreamWriter<W>,
     calls: &[WriterCall],
 ) -> Result<Vec<Result<(), Fault>>, AllocError>
-    ensures made { IfOk result (λ answers. AreMade W.known W.grows W.failures W.room W.memory
+    ensures made { IfOk result (λ answers. AreMade W.device
         (seen writer.old) calls.now answers.items (seen writer.new)) }
     ensures run { IfOk result (λ answers. IsRun (stage_of (seen writer.old))
         (ended_as calls.now answers.items) (stage_of (seen writer.new))) }
-    ensures leads { IfOk result (λ answers. LeadsTo W.known W.memory
-        (seen writer.old) (seen writer.new)
+    ensures leads { IfOk result (λ answers. LeadsTo W.device (seen writer.old) (seen writer.new)
         (λ head. head_left (seen writer.old).order calls.now answers.items head)
         (taken (answered (ended_as calls.now answers.items)))) }
-    ensures refused { OnErr result (FirstAreMade W.known W.grows W.failures W.room W.memory
+    ensures refused { OnErr result (FirstAreMade W.device
         (seen writer.old) calls.now (seen writer.new)) }
 {
     let mut answers = Vec::new(alloc);

@@ -94,11 +94,18 @@ pub fn encode_chunk(
     dictionary_tracker: &mut DictionaryTracker,
     options: &WriteOptions,
 ) -> Result<(Vec<EncodedData>, EncodedData), Fault>
-    ensures encodes { IfOk result (λ made. EncodesChunk (order_of (not options.now.big_endian)) (remembered dictionary_tracker.old) dictionary_tracker.old.cannot_replace
-        (map layout_of columns.now) (all_ids_view fields.now) made.0.items made.1 (remembered dictionary_tracker.new)) }
-    ensures refused { IfErr result (RefusesChunk (remembered dictionary_tracker.old) dictionary_tracker.old.cannot_replace (map layout_of columns.now) (all_ids_view fields.now)) }
-    ensures kept { OnErr result (IsSameMemory (remembered dictionary_tracker.old) (remembered dictionary_tracker.new)) }
-    ensures fixed { dictionary_tracker.new.cannot_replace ≡ dictionary_tracker.old.cannot_replace }
+    ensures encodes { IfOk result (λ made. EncodesChunk (order_of (not options.now.big_endian))
+        (remembered dictionary_tracker.old) dictionary_tracker.old.cannot_replace
+        (map layout_of columns.now) (all_ids_view fields.now) made.0.items made.1
+        (remembered dictionary_tracker.new)) }
+    ensures refused { IfErr result (RefusesChunk (remembered dictionary_tracker.old)
+        dictionary_tracker.old.cannot_replace (map layout_of columns.now)
+        (all_ids_view fields.now)) }
+    ensures kept { OnErr result
+        (IsSameMemory (remembered dictionary_tracker.old)
+        (remembered dictionary_tracker.new)) }
+    ensures fixed { dictionary_tracker.new.cannot_replace
+        ≡ dictionary_tracker.old.cannot_replace }
 {
     let mut encoded_message = EncodedData::empty(alloc);
     let encoded_dictionaries = encode_chunk_amortized(
@@ -125,11 +132,19 @@ pub fn encode_chunk_amortized(
     options: &WriteOptions,
     encoded_message: &mut EncodedData,
 ) -> Result<Vec<EncodedData>, Fault>
-    ensures encodes { IfOk result (λ dictionaries. EncodesChunk (order_of (not options.now.big_endian)) (remembered dictionary_tracker.old) dictionary_tracker.old.cannot_replace
-        (map layout_of columns.now) (all_ids_view fields.now) dictionaries.items encoded_message.new (remembered dictionary_tracker.new)) }
-    ensures refused { IfErr result (RefusesChunk (remembered dictionary_tracker.old) dictionary_tracker.old.cannot_replace (map layout_of columns.now) (all_ids_view fields.now)) }
-    ensures kept { OnErr result (IsSameMemory (remembered dictionary_tracker.old) (remembered dictionary_tracker.new)) }
-    ensures fixed { dictionary_tracker.new.cannot_replace ≡ dictionary_tracker.old.cannot_replace }
+    ensures encodes { IfOk result (λ dictionaries.
+        EncodesChunk (order_of (not options.now.big_endian))
+        (remembered dictionary_tracker.old) dictionary_tracker.old.cannot_replace
+        (map layout_of columns.now) (all_ids_view fields.now) dictionaries.items
+        encoded_message.new (remembered dictionary_tracker.new)) }
+    ensures refused { IfErr result (RefusesChunk (remembered dictionary_tracker.old)
+        dictionary_tracker.old.cannot_replace (map layout_of columns.now)
+        (all_ids_view fields.now)) }
+    ensures kept { OnErr result
+        (IsSameMemory (remembered dictionary_tracker.old)
+        (remembered dictionary_tracker.new)) }
+    ensures fixed { dictionary_tracker.new.cannot_replace
+        ≡ dictionary_tracker.old.cannot_replace }
 {
     let arrays = columns.arrays();
     let is_little_endian = !options.big_endian;

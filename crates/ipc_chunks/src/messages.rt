@@ -53,9 +53,13 @@ pub fn list_messages(
     columns: &[AnyArray],
     ids: &[IpcField],
 ) -> Result<Vec<NewDictionary>, Fault>
-    ensures lists { IfOk result (λ list. ListsAll (remembered tracker.now) tracker.now.cannot_replace (map layout_of columns.now) (all_ids_view ids.now) (map listed list.items)) }
-    ensures lengths { OnOk result (HaveLengths (values_of (layouts (map layout_of columns.now)) (all_ids_view ids.now))) }
-    ensures refused { IfErr result (RefusesPlaces (remembered tracker.now) tracker.now.cannot_replace (map layout_of columns.now) (all_ids_view ids.now)) }
+    ensures lists { IfOk result (λ list.
+        ListsAll (remembered tracker.now) tracker.now.cannot_replace (map layout_of columns.now)
+        (all_ids_view ids.now) (map listed list.items)) }
+    ensures lengths { OnOk result
+        (HaveLengths (values_of (layouts (map layout_of columns.now)) (all_ids_view ids.now))) }
+    ensures refused { IfErr result (RefusesPlaces (remembered tracker.now)
+        tracker.now.cannot_replace (map layout_of columns.now) (all_ids_view ids.now)) }
 {
     let list = list_dictionaries(alloc, tracker, columns, ids)?;
     check_lengths(alloc, columns)?;
@@ -115,11 +119,14 @@ pub fn encode_messages<'a>(
     dictionaries: &'a [NewDictionary],
     is_little_endian: bool,
 ) -> Result<Messages<'a>, Fault>
-    ensures encodes { IfOk result (λ messages. AreMessages (order_of is_little_endian) (map layout_of columns.now) (map listed dictionaries.now)
+    ensures encodes { IfOk result (λ messages. AreMessages (order_of is_little_endian)
+        (map layout_of columns.now) (map listed dictionaries.now)
         (dictionaries_seen messages) (message_seen messages.record_batch)) }
     ensures sendable { IfOk result AreSendable }
     ensures whole { IfOk result HaveWholeBodies }
-    ensures takes { MatchResult result (λ _. IsEncodable Record (row_count len_of (map layout_of columns.now)) (levels_of (map layout_of columns.now)))
+    ensures takes { MatchResult result
+        (λ _. IsEncodable Record (row_count len_of (map layout_of columns.now))
+        (levels_of (map layout_of columns.now)))
         (RefusesMessages (map listed dictionaries.now) (map layout_of columns.now)) }
 {
     let rows = columns.len();

@@ -1,5 +1,5 @@
 -- Why the copies are refused, call by call.
-use Rattle.std.proofs.Common.{◌≡◌, ◌⊎◌, ℕ, ◌≤◌, List, map, None, Some, Result, Ok, Err, IfErr, IfOk, Bool, IsTrue, inl, inr, refl, sym, ap, subst, ◌∙◌}
+use Rattle.std.proofs.Common.{◌≡◌, ◌⊎◌, ℕ, ◌≤◌, List, map, None, Some, Result, Ok, Err, IfErr, IfOk, IsTrue, inl, inr, refl, sym, ap, subst, ◌∙◌}
 use Rattle.lower.specs.TypeTrees.{FieldTrees, Pairs}
 use Rattle.lower.specs.TypeViews.{fields_view, pairs_of}
 use Rattle.lower_types.specs.declared.Endianness.{Endianness}
@@ -7,7 +7,7 @@ use Rattle.lower_arrays.specs.AnyLayouts.{layout_of}
 use Rattle.lower_arrays.specs.declared.array.AnyArray.{AnyArray}
 use Rattle.ipc_devices.proofs.Claims.{claims_through}
 use Rattle.ipc_base.specs.IdTrees.{IdTrees, all_ids_view}
-use Rattle.ipc_devices.specs.Device.{Memory}
+use Rattle.ipc_devices.specs.Device.{Device, Memory}
 use Rattle.ipc_devices.specs.Faults.{OwnFault}
 use Rattle.ipc_devices.specs.Gives.{Gives, GivesAhead, GivesInOrder}
 use Rattle.ipc_devices.specs.declared.fault.ArgFault.TheVariants.{TooLarge}
@@ -36,10 +36,10 @@ use Rattle.ipc_file_write.specs.declared.file.FileWriter.{FileWriter}
 use Rattle.ipc_convert.proofs.Own.{own}
 use Rattle.ipc_convert.proofs.Refused.{file_schema_refused, file_stopped, first_refused, blocks_refused, schema_refused, start_refused, stream_misses, stream_stopped}
 use Rattle.ipc_convert.specs.Chunks.{Copied, StopsCopy}
-use Rattle.ipc_convert.specs.Refusals.{CantTake, CopiesNoFile, CopiesNoStream, HoldsOfGiven, MissesChunk, RefusesAsStream, RefusesInBlocks}
-use Rattle.ipc_convert.specs.Sinks.{FileRefuses, FileTook, StreamRefuses, StreamTook}
-use Rattle.ipc_convert.specs.Sources.{FileBreaks, FileCame, FileStopped, StreamBreaks, StreamCame, StreamStopped}
-use Rattle.ipc_convert.specs.Steps.{BeginsFile, EndsAnyway, RefusesWithPairs, both}
+use Rattle.ipc_convert.specs.Refusals.{FileTakeCause, CopyFileCause, CopyStreamCause, HoldsOfGiven, TakenChunkCause, AsStreamCause, InBlocksCause}
+use Rattle.ipc_convert.specs.Sinks.{FileWriterCause, FileTook, StreamTakeCause, StreamTook}
+use Rattle.ipc_convert.specs.Sources.{NextOfFileCause, FileCame, FileStopped, NextOfStreamCause, StreamCame, StreamStopped}
+use Rattle.ipc_convert.specs.Steps.{BeginsFile, EndsAnyway, WithPairsCause, both}
 use Rattle.ipc_convert.specs.declared.chunks.Ending.{Ending}
 
 -- An error of allocation claims nothing.
@@ -48,12 +48,12 @@ memory_alone e Q is = subst (λ (x : Fault). OwnFault x Q) (sym is) tt
 
 -- Metadata of a file that are refused.
 pub file_front_refused : (bytes : List ℕ) (e : Fault) (refuses : (List Chunk → Type 0) → Schema → Pairs → Fault → Type 0) → OwnFault e (model.metadata_of bytes ≡ None) → OwnFault e (FileReason 0 bytes e)
-    → OwnFault e (CopiesNoFile refuses bytes e)
-file_front_refused bytes e refuses none reason = own e (CopiesNoFile refuses bytes e) (λ it. inl (it (model.metadata_of bytes ≡ None) none, it (FileReason 0 bytes e) reason))
+    → OwnFault e (CopyFileCause refuses bytes e)
+file_front_refused bytes e refuses none reason = own e (CopyFileCause refuses bytes e) (λ it. inl (it (model.metadata_of bytes ≡ None) none, it (FileReason 0 bytes e) reason))
 
 -- ---- as a stream
 
-module _ {W : Type 0} (filled : Bool) (to : W → Memory) where
+module _ {W : Type 0} (to : Device W) where
   -- What is left after a schema that the writer refuses.
   started_not : (s : WriterState) (fs given : FieldTrees) (es held : Pairs) (ids are : IdTrees) (e : Fault) → s ≡ New → fs ≡ given → es ≡ held → ids ≡ are → RefusesStart s fs es ids e
       → RefusesStart s given held are e
@@ -62,55 +62,55 @@ module _ {W : Type 0} (filled : Bool) (to : W → Memory) where
 
   -- Columns that the writer refuses.
   columns_missed : (v w : StreamWriter W) (u : StreamWriter W) (fs given : FieldTrees) (es held : Pairs) (ids are : IdTrees) (cs : List Chunk) (columns : List AnyArray) (e : Fault) → ((P : Type 0) → OwnFault e P → P)
-      → fs ≡ given → es ≡ held → ids ≡ are → StartsWith (seen u) (seen v) fs es ids → StreamTook filled to v cs w → StreamRefuses w columns e → MissesChunk given are (map layout_of columns) e
+      → fs ≡ given → es ≡ held → ids ≡ are → StartsWith (seen u) (seen v) fs es ids → StreamTook to v cs w → StreamTakeCause w columns e → TakenChunkCause given are (map layout_of columns) e
   columns_missed v w u fs given es held ids are cs columns e it f m i starts took refused =
-      subst (λ (js : IdTrees). MissesChunk given js (map layout_of columns) e) i (subst (λ (fs : FieldTrees). MissesChunk fs ids (map layout_of columns) e) f
-      (stream_misses filled to (seen v) (seen w) fs es ids cs columns e it starts.is starts.types starts.ids_are starts.writable took refused))
+      subst (λ (js : IdTrees). TakenChunkCause given js (map layout_of columns) e) i (subst (λ (fs : FieldTrees). TakenChunkCause fs ids (map layout_of columns) e) f
+      (stream_misses to (seen v) (seen w) fs es ids cs columns e it starts.is starts.types starts.ids_are starts.writable took refused))
 
-  module _ {R : Type 0} (gives : Gives R) (known : Bool) (memory : R → Memory) (law : GivesInOrder gives) (ahead : GivesAhead known gives memory)
+  module _ {R : Type 0} (gives : Gives R) (d : Device R) (law : GivesInOrder gives) (ahead : GivesAhead d gives)
       (input device : R) (m : StreamMetadata) (r : StreamReader R) (e : Fault) (front : MetadataGave gives input (Ok m) device) (begins : IsUnread device m r) (whole : projection_of r ≡ None)
       (shown : StreamMetadata) (ids : IdTrees) (is : shown ≡ m) (same : ids ≡ all_ids_view m.ipc_schema.fields.items) where
     abbrev WhyStream : Type 0
-    WhyStream = HoldsOfGiven gives known memory input (λ bytes. CopiesNoStream RefusesAsStream bytes e)
+    WhyStream = HoldsOfGiven gives d input (λ bytes. CopyStreamCause AsStreamCause bytes e)
 
     pub stream_start_stops : (s : WriterState) → s ≡ New → RefusesStart s (fields_view shown.schema.fields.items) (pairs_of shown.schema.metadata.entries) ids e → OwnFault e WhyStream
     stream_start_stops s new h =
         let schema = (head_of m).schema in
         let refused = started_not s (fields_view shown.schema.fields.items) schema.fields (pairs_of shown.schema.metadata.entries) schema.metadata ids schema.ids e new
         (ap (λ (x : StreamMetadata). fields_view x.schema.fields.items) is) (ap (λ (x : StreamMetadata). pairs_of x.schema.metadata.entries) is) same h in
-        claims_through e _ _ (λ no. schema_refused gives known memory ahead input device m e RefusesAsStream front (λ first. inl no))
+        claims_through e _ _ (λ no. schema_refused gives d ahead input device m e AsStreamCause front (λ first. inl no))
         (start_refused s schema.fields schema.metadata schema.ids e new refused)
 
     pub stream_copy_stops : (u v : StreamWriter W) → StartsWith (seen u) (seen v) (fields_view shown.schema.fields.items) (pairs_of shown.schema.metadata.entries) ids
-        → OwnFault e (StopsCopy (StreamCame gives) (StreamBreaks gives) (StreamTook filled to) StreamRefuses r v e) → OwnFault e WhyStream
+        → OwnFault e (StopsCopy (StreamCame gives) (NextOfStreamCause gives) (StreamTook to) StreamTakeCause r v e) → OwnFault e WhyStream
     stream_copy_stops u v starts stops = own e WhyStream (λ it.
         let schema = (head_of m).schema in
-        stream_stopped gives known memory law ahead input device m r e front begins whole RefusesAsStream (StreamTook filled to) StreamRefuses v
-        (λ before columns. MissesChunk schema.fields schema.ids (map layout_of columns) e)
+        stream_stopped gives d law ahead input device m r e front begins whole AsStreamCause (StreamTook to) StreamTakeCause v
+        (λ before columns. TakenChunkCause schema.fields schema.ids (map layout_of columns) e)
         (λ cs w columns took refused. columns_missed v w u (fields_view shown.schema.fields.items) schema.fields (pairs_of shown.schema.metadata.entries) schema.metadata ids schema.ids cs columns e it
         (ap (λ (x : StreamMetadata). fields_view x.schema.fields.items) is) (ap (λ (x : StreamMetadata). pairs_of x.schema.metadata.entries) is) same starts took refused)
         (λ first no. inr no) (it _ stops))
 
-  module _ {F : Type 0} (known : Bool) (memory : F → Memory) (k : IsTrue known) (file device : F) (m : FileMetadata) (r : FileReader F) (e : Fault)
-      (read : model.metadata_of (memory file).whole ≡ Some (file_seen m)) (unchanged : (memory device).whole ≡ (memory file).whole) (begins : blocks.IsUnread device m None None r)
+  module _ {F : Type 0} (d : Device F) (k : IsTrue d.is_memory) (file device : F) (m : FileMetadata) (r : FileReader F) (e : Fault)
+      (read : model.metadata_of (d.memory file).whole ≡ Some (file_seen m)) (unchanged : (d.memory device).whole ≡ (d.memory file).whole) (begins : blocks.IsUnread device m None None r)
       (shown : FileMetadata) (ids : IdTrees) (is : shown ≡ m) (same : ids ≡ all_ids_view m.ipc_schema.fields.items) where
     abbrev StreamHeld : (List Chunk → Type 0) → Schema → Pairs → Fault → Type 0
-    StreamHeld first schema pairs fault = RefusesAsStream first schema fault
+    StreamHeld first schema pairs fault = AsStreamCause first schema fault
 
     pub file_start_stops : (s : WriterState) → s ≡ New → RefusesStart s (fields_view shown.schema.fields.items) (pairs_of shown.schema.metadata.entries) ids e
-        → OwnFault e (CopiesNoFile StreamHeld (memory file).whole e)
+        → OwnFault e (CopyFileCause StreamHeld (d.memory file).whole e)
     file_start_stops s new h =
         let schema = (file_seen m).schema in
         let refused = started_not s (fields_view shown.schema.fields.items) schema.fields (pairs_of shown.schema.metadata.entries) schema.metadata ids schema.ids e new
         (ap (λ (x : FileMetadata). fields_view x.schema.fields.items) is) (ap (λ (x : FileMetadata). pairs_of x.schema.metadata.entries) is) same h in
-        claims_through e _ _ (λ no. file_schema_refused known memory k file device m r e read unchanged begins StreamHeld (λ first. inl no)) (start_refused s schema.fields schema.metadata schema.ids e new refused)
+        claims_through e _ _ (λ no. file_schema_refused d k file device m r e read unchanged begins StreamHeld (λ first. inl no)) (start_refused s schema.fields schema.metadata schema.ids e new refused)
 
     pub file_copy_stops : (u v : StreamWriter W) → StartsWith (seen u) (seen v) (fields_view shown.schema.fields.items) (pairs_of shown.schema.metadata.entries) ids
-        → OwnFault e (StopsCopy (FileCame known memory) (FileBreaks known memory) (StreamTook filled to) StreamRefuses r v e) → OwnFault e (CopiesNoFile StreamHeld (memory file).whole e)
-    file_copy_stops u v starts stops = own e (CopiesNoFile StreamHeld (memory file).whole e) (λ it.
+        → OwnFault e (StopsCopy (FileCame d) (NextOfFileCause d) (StreamTook to) StreamTakeCause r v e) → OwnFault e (CopyFileCause StreamHeld (d.memory file).whole e)
+    file_copy_stops u v starts stops = own e (CopyFileCause StreamHeld (d.memory file).whole e) (λ it.
         let schema = (file_seen m).schema in
-        file_stopped known memory k file device m r e read unchanged begins StreamHeld (StreamTook filled to) StreamRefuses v
-        (λ before columns. MissesChunk schema.fields schema.ids (map layout_of columns) e)
+        file_stopped d k file device m r e read unchanged begins StreamHeld (StreamTook to) StreamTakeCause v
+        (λ before columns. TakenChunkCause schema.fields schema.ids (map layout_of columns) e)
         (λ cs w columns took refused. columns_missed v w u (fields_view shown.schema.fields.items) schema.fields (pairs_of shown.schema.metadata.entries) schema.metadata ids schema.ids cs columns e it
         (ap (λ (x : FileMetadata). fields_view x.schema.fields.items) is) (ap (λ (x : FileMetadata). pairs_of x.schema.metadata.entries) is) same starts took refused)
         (λ first no. inr no) (it _ stops))
@@ -119,15 +119,15 @@ module _ {W : Type 0} (filled : Bool) (to : W → Memory) where
 
 -- A schema that is refused with its pairs, and the same by other definitions.
 pub same_refused : (fs given : FieldTrees) (es held : Pairs) (ids are : IdTrees) (pairs those : Pairs) (e : Fault) → fs ≡ given → es ≡ held → ids ≡ are → pairs ≡ those
-    → RefusesWithPairs fs es ids pairs e → RefusesWithPairs given held are those e
+    → WithPairsCause fs es ids pairs e → WithPairsCause given held are those e
 same_refused fs given es held ids are pairs those e f m i p h =
-    subst (λ (ps : Pairs). RefusesWithPairs given held are ps e) p (subst (λ (js : IdTrees). RefusesWithPairs given held js pairs e) i
-    (subst (λ (ms : Pairs). RefusesWithPairs given ms ids pairs e) m (subst (λ (fs : FieldTrees). RefusesWithPairs fs es ids pairs e) f h)))
+    subst (λ (ps : Pairs). WithPairsCause given held are ps e) p (subst (λ (js : IdTrees). WithPairsCause given held js pairs e) i
+    (subst (λ (ms : Pairs). WithPairsCause given ms ids pairs e) m (subst (λ (fs : FieldTrees). WithPairsCause fs es ids pairs e) f h)))
 
 -- A file that is begun, and the same by other definitions.
-pub same_begun : {W : Type 0} (known : Bool) (memory : W → Memory) (out : W) (order : Endianness) (fs given : FieldTrees) (es held : Pairs) (ids are : IdTrees) (pairs those : Pairs) (w : FileSeen W)
-    → fs ≡ given → es ≡ held → ids ≡ are → pairs ≡ those → BeginsFile known memory out order fs es ids pairs w → BeginsFile known memory out order given held are those w
-same_begun known memory out order fs given es held ids are pairs those w f m i p b = record {
+pub same_begun : {W : Type 0} (d : Device W) (out : W) (order : Endianness) (fs given : FieldTrees) (es held : Pairs) (ids are : IdTrees) (pairs those : Pairs) (w : FileSeen W)
+    → fs ≡ given → es ≡ held → ids ≡ are → pairs ≡ those → BeginsFile d out order fs es ids pairs w → BeginsFile d out order given held are those w
+same_begun d out order fs given es held ids are pairs those w f m i p b = record {
   state = b.state;
   order_is = b.order_is;
   fields_are = b.fields_are ∙ f;
@@ -139,7 +139,7 @@ same_begun known memory out order fs given es held ids are pairs those w f m i p
 
 -- pairs that a new writer refuses
 pub pairs_refused : {W : Type 0} (w : FileSeen W) (fs : FieldTrees) (es : Pairs) (ids : IdTrees) (pairs : Pairs) (e : Fault) → w.state ≡ New → w.fields ≡ fs → w.metadata ≡ es → files.TakesNoPairs w pairs e
-    → OwnFault e (RefusesWithPairs fs es ids pairs e)
+    → OwnFault e (WithPairsCause fs es ids pairs e)
 pairs_refused w fs es ids pairs (faults.State x) new f m h = (let none : None ≡ Some x = subst (λ (s : WriterState). files.fault_if_over s ≡ Some x) new h in absurd cc)
 pairs_refused w fs es ids pairs (faults.Argument TooLarge) new f m h =
     inr (refl, subst (λ (ms : Pairs). ¬ (file_weight fs ms pairs ≤ max_weight)) m (subst (λ (fs : FieldTrees). ¬ (file_weight fs w.metadata pairs ≤ max_weight)) f h))
@@ -147,7 +147,7 @@ pairs_refused w fs es ids pairs _ new f m h = absurd h
 
 -- a schema that it refuses
 pub begin_refused : {W : Type 0} (w : FileSeen W) (fs : FieldTrees) (es : Pairs) (ids : IdTrees) (pairs : Pairs) (e : Fault) → w.state ≡ New → w.fields ≡ fs → w.metadata ≡ es → w.chosen ≡ ids
-    → files.OrFails (files.RefusesStart w) e → OwnFault e (RefusesWithPairs fs es ids pairs e)
+    → files.OrFails (files.RefusesStart w) e → OwnFault e (WithPairsCause fs es ids pairs e)
 begin_refused w fs es ids pairs (faults.State x) new f m i h = (let none : None ≡ Some x = subst (λ (s : WriterState). fault_unless_new s ≡ Some x) new h in absurd cc)
 begin_refused w fs es ids pairs (faults.Argument a) new f m i h =
     inl (subst (λ (js : IdTrees). RefusesSchema (faults.Argument a) fs es js) i (subst (λ (ms : Pairs). RefusesSchema (faults.Argument a) fs ms w.chosen) m
@@ -158,9 +158,9 @@ begin_refused w fs es ids pairs _ new f m i h = absurd h
 
 -- A file that is finished whatever the copy returned: the refusal is
 -- that of the copy, or of the end.
-pub ended_by : {W : Type 0} (known : Bool) (memory : W → Memory) (copied : Result Ending Fault) (e : Fault) (a b : FileSeen W) → EndsAnyway known memory copied (Err e) a b
+pub ended_by : {W : Type 0} (d : Device W) (copied : Result Ending Fault) (e : Fault) (a b : FileSeen W) → EndsAnyway d copied (Err e) a b
     → (copied ≡ Err e) ⊎ ((ending : Ending) × (copied ≡ Ok ending) × AnswersFinish a (Err e))
-ended_by known memory copied e a b anyway = by copied anyway.finished (sym anyway.is) anyway.answers
+ended_by d copied e a b anyway = by copied anyway.finished (sym anyway.is) anyway.answers
   where
     fault_or : Result Ending Fault → Fault
     fault_or (Ok x) = e
@@ -172,25 +172,25 @@ ended_by known memory copied e a b anyway = by copied anyway.finished (sym anywa
     by (Ok ending) (Ok x) is answers = absurd cc
 
 -- A file writer that was opened so, writes what is read, and is finished then.
-module _ {W : Type 0} (filled : Bool) (to : W → Memory) (opened : FileSeen W → Type 0) (v w x : FileWriter W) (e : Fault) (is : opened (files.seen v)) where
+module _ {W : Type 0} (to : Device W) (opened : FileSeen W → Type 0) (v w x : FileWriter W) (e : Fault) (is : opened (files.seen v)) where
   -- Columns that the writer refuses.
-  not_taken : (cs : List Chunk) (u : FileWriter W) (columns : List AnyArray) → FileTook filled to v cs u → FileRefuses u columns e → CantTake filled to opened e cs columns
+  not_taken : (cs : List Chunk) (u : FileWriter W) (columns : List AnyArray) → FileTook to v cs u → FileWriterCause u columns e → FileTakeCause to opened e cs columns
   not_taken cs u columns took refused = record { begun = files.seen v; is = is; writer = files.seen u; took = took; refused = refused.0; named = refused.1 }
 
-  module _ {R : Type 0} (gives : Gives R) (known : Bool) (memory : R → Memory) (law : GivesInOrder gives) (ahead : GivesAhead known gives memory)
+  module _ {R : Type 0} (gives : Gives R) (d : Device R) (law : GivesInOrder gives) (ahead : GivesAhead d gives)
       (input device : R) (m : StreamMetadata) (r c : StreamReader R) (front : MetadataGave gives input (Ok m) device) (begins : IsUnread device m r) (whole : projection_of r ≡ None)
-      (refuses : (List Chunk → Type 0) → Schema → Fault → Type 0) (told : (first : List Chunk → Type 0) → RefusesInBlocks filled to opened first e → refuses first (head_of m).schema e) where
-    pub stream_blocks_stop : (copied : Result Ending Fault) → IfErr copied (λ y. OwnFault y (StopsCopy (StreamCame gives) (StreamBreaks gives) (FileTook filled to) FileRefuses r v y))
-        → IfOk copied (λ ending. Copied (StreamCame gives) (StreamStopped gives) (FileTook filled to) r v ending c w) → EndsAnyway filled to copied (Err e) (files.seen w) (files.seen x)
-        → OwnFault e (HoldsOfGiven gives known memory input (λ bytes. CopiesNoStream refuses bytes e))
-    stream_blocks_stop copied stops all anyway = own e (HoldsOfGiven gives known memory input (λ bytes. CopiesNoStream refuses bytes e)) (λ it.
-        elim (ended_by filled to copied e (files.seen w) (files.seen x) anyway) [
+      (refuses : (List Chunk → Type 0) → Schema → Fault → Type 0) (told : (first : List Chunk → Type 0) → InBlocksCause to opened first e → refuses first (head_of m).schema e) where
+    pub stream_blocks_stop : (copied : Result Ending Fault) → IfErr copied (λ y. OwnFault y (StopsCopy (StreamCame gives) (NextOfStreamCause gives) (FileTook to) FileWriterCause r v y))
+        → IfOk copied (λ ending. Copied (StreamCame gives) (StreamStopped gives) (FileTook to) r v ending c w) → EndsAnyway to copied (Err e) (files.seen w) (files.seen x)
+        → OwnFault e (HoldsOfGiven gives d input (λ bytes. CopyStreamCause refuses bytes e))
+    stream_blocks_stop copied stops all anyway = own e (HoldsOfGiven gives d input (λ bytes. CopyStreamCause refuses bytes e)) (λ it.
+        elim (ended_by to copied e (files.seen w) (files.seen x) anyway) [
           | inl refused ↦
-              let stopped = it _ (subst (λ (o : Result Ending Fault). IfErr o (λ y. OwnFault y (StopsCopy (StreamCame gives) (StreamBreaks gives) (FileTook filled to) FileRefuses r v y))) refused stops) in
-              stream_stopped gives known memory law ahead input device m r e front begins whole refuses (FileTook filled to) FileRefuses v (CantTake filled to opened e) not_taken (λ first no. told first (inl no)) stopped
+              let stopped = it _ (subst (λ (o : Result Ending Fault). IfErr o (λ y. OwnFault y (StopsCopy (StreamCame gives) (NextOfStreamCause gives) (FileTook to) FileWriterCause r v y))) refused stops) in
+              stream_stopped gives d law ahead input device m r e front begins whole refuses (FileTook to) FileWriterCause v (FileTakeCause to opened e) not_taken (λ first no. told first (inl no)) stopped
           | inr ended ↦
-              let done = subst (λ (o : Result Ending Fault). IfOk o (λ ending. Copied (StreamCame gives) (StreamStopped gives) (FileTook filled to) r v ending c w)) ended.1 all in
-              first_refused gives known memory law ahead input device m r e front begins whole refuses done.handed.chunks done.last done.handed.came_all (λ first are. told first (inr (record {
+              let done = subst (λ (o : Result Ending Fault). IfOk o (λ ending. Copied (StreamCame gives) (StreamStopped gives) (FileTook to) r v ending c w)) ended.1 all in
+              first_refused gives d law ahead input device m r e front begins whole refuses done.handed.chunks done.last done.handed.came_all (λ first are. told first (inr (record {
                 chunks = done.handed.chunks;
                 are_first = are;
                 begun = files.seen v;
@@ -201,20 +201,20 @@ module _ {W : Type 0} (filled : Bool) (to : W → Memory) (opened : FileSeen W �
               })))
         ])
 
-  module _ {F : Type 0} (known : Bool) (memory : F → Memory) (k : IsTrue known) (file device : F) (m : FileMetadata) (r c : FileReader F)
-      (read : model.metadata_of (memory file).whole ≡ Some (file_seen m)) (unchanged : (memory device).whole ≡ (memory file).whole) (begins : blocks.IsUnread device m None None r)
-      (refuses : (List Chunk → Type 0) → Schema → Pairs → Fault → Type 0) (told : (first : List Chunk → Type 0) → RefusesInBlocks filled to opened first e → refuses first (file_seen m).schema (file_seen m).pairs e) where
-    pub file_blocks_stop : (copied : Result Ending Fault) → IfErr copied (λ y. OwnFault y (StopsCopy (FileCame known memory) (FileBreaks known memory) (FileTook filled to) FileRefuses r v y))
-        → IfOk copied (λ ending. Copied (FileCame known memory) FileStopped (FileTook filled to) r v ending c w) → EndsAnyway filled to copied (Err e) (files.seen w) (files.seen x)
-        → OwnFault e (CopiesNoFile refuses (memory file).whole e)
-    file_blocks_stop copied stops all anyway = own e (CopiesNoFile refuses (memory file).whole e) (λ it.
-        elim (ended_by filled to copied e (files.seen w) (files.seen x) anyway) [
+  module _ {F : Type 0} (d : Device F) (k : IsTrue d.is_memory) (file device : F) (m : FileMetadata) (r c : FileReader F)
+      (read : model.metadata_of (d.memory file).whole ≡ Some (file_seen m)) (unchanged : (d.memory device).whole ≡ (d.memory file).whole) (begins : blocks.IsUnread device m None None r)
+      (refuses : (List Chunk → Type 0) → Schema → Pairs → Fault → Type 0) (told : (first : List Chunk → Type 0) → InBlocksCause to opened first e → refuses first (file_seen m).schema (file_seen m).pairs e) where
+    pub file_blocks_stop : (copied : Result Ending Fault) → IfErr copied (λ y. OwnFault y (StopsCopy (FileCame d) (NextOfFileCause d) (FileTook to) FileWriterCause r v y))
+        → IfOk copied (λ ending. Copied (FileCame d) FileStopped (FileTook to) r v ending c w) → EndsAnyway to copied (Err e) (files.seen w) (files.seen x)
+        → OwnFault e (CopyFileCause refuses (d.memory file).whole e)
+    file_blocks_stop copied stops all anyway = own e (CopyFileCause refuses (d.memory file).whole e) (λ it.
+        elim (ended_by to copied e (files.seen w) (files.seen x) anyway) [
           | inl refused ↦
-              let stopped = it _ (subst (λ (o : Result Ending Fault). IfErr o (λ y. OwnFault y (StopsCopy (FileCame known memory) (FileBreaks known memory) (FileTook filled to) FileRefuses r v y))) refused stops) in
-              file_stopped known memory k file device m r e read unchanged begins refuses (FileTook filled to) FileRefuses v (CantTake filled to opened e) not_taken (λ first no. told first (inl no)) stopped
+              let stopped = it _ (subst (λ (o : Result Ending Fault). IfErr o (λ y. OwnFault y (StopsCopy (FileCame d) (NextOfFileCause d) (FileTook to) FileWriterCause r v y))) refused stops) in
+              file_stopped d k file device m r e read unchanged begins refuses (FileTook to) FileWriterCause v (FileTakeCause to opened e) not_taken (λ first no. told first (inl no)) stopped
           | inr ended ↦
-              let done = subst (λ (o : Result Ending Fault). IfOk o (λ ending. Copied (FileCame known memory) FileStopped (FileTook filled to) r v ending c w)) ended.1 all in
-              blocks_refused known memory k file device m r e read unchanged begins refuses done.handed.chunks done.last done.handed.came_all (λ first are. told first (inr (record {
+              let done = subst (λ (o : Result Ending Fault). IfOk o (λ ending. Copied (FileCame d) FileStopped (FileTook to) r v ending c w)) ended.1 all in
+              blocks_refused d k file device m r e read unchanged begins refuses done.handed.chunks done.last done.handed.came_all (λ first are. told first (inr (record {
                 chunks = done.handed.chunks;
                 are_first = are;
                 begun = files.seen v;

@@ -1,6 +1,6 @@
 -- What a device's error says, call by call: which device failed.
-use Rattle.std.proofs.Common.{◌≡◌, ◌⊎◌, ℕ, List, length, Bool, Result, Ok, Err, OnOk, inl, inr, refl, sym, subst, ◌∙◌}
-use Rattle.ipc_devices.specs.Device.{Memory, Rises}
+use Rattle.std.proofs.Common.{◌≡◌, ◌⊎◌, ℕ, List, length, Result, Ok, Err, OnOk, inl, inr, refl, sym, subst, ◌∙◌}
+use Rattle.ipc_devices.specs.Device.{Device, Memory, Rises}
 use Rattle.ipc_devices.specs.Faults.{OnIo}
 use Rattle.ipc_devices.specs.Gives.{Gives, GivesFails}
 use Rattle.ipc_devices.specs.declared.fault.Fault.{Fault}
@@ -46,22 +46,22 @@ pairs_say_none w pairs _ P h = tt
 -- ---- a chunk
 
 -- The next chunk of a stream.
-pub stream_next_fails : {R : Type 0} (gives : Gives R) (known : Bool) (memory : R → Memory) (failures : R → ℕ) → GivesFails gives failures → (a : StreamReader R) (r : Answer) (b : StreamReader R)
-    → NextStep gives known memory a r b → OnIo (next_result r) (Rises (failures (device_of a)) (failures (device_of b)))
-stream_next_fails gives known memory failures law a r b step = (next_fails gives known memory failures law a r b step).0
+pub stream_next_fails : {R : Type 0} (gives : Gives R) (d : Device R) → GivesFails gives d.failures → (a : StreamReader R) (r : Answer) (b : StreamReader R)
+    → NextStep gives d a r b → OnIo (next_result r) (Rises (d.failures (device_of a)) (d.failures (device_of b)))
+stream_next_fails gives d law a r b step = (next_fails gives d law a r b step).0
 
 -- A chunk that is written to a stream.
-pub stream_step_fails : {W : Type 0} (known grows : Bool) (failures room : W → ℕ) (memory : W → Memory) (a : WriterSeen W) (r : Result (Unit {0}) Fault) (b : WriterSeen W) (bytes : List ℕ) (count : ℕ)
-    → SendStep known grows failures room memory a r b bytes count → OnIo r (SendFails grows failures room a.device b.device)
-stream_step_fails known grows failures room memory a r b bytes count step =
-    told_on r ((b.state ≡ Failed) × FailsOrIsFull grows (failures a.device) (failures b.device) (room a.device) count) (SendFails grows failures room a.device b.device)
+pub stream_step_fails : {W : Type 0} (d : Device W) (a : WriterSeen W) (r : Result (Unit {0}) Fault) (b : WriterSeen W) (bytes : List ℕ) (count : ℕ)
+    → SendStep d a r b bytes count → OnIo r (SendFails d a.device b.device)
+stream_step_fails d a r b bytes count step =
+    told_on r ((b.state ≡ Failed) × FailsOrIsFull d.grows (d.failures a.device) (d.failures b.device) (d.room a.device) count) (SendFails d a.device b.device)
     (λ h. record { count = count; failed = h.1 }) step.io
 
 -- A chunk that is written to a file.
-pub file_step_fails : {W : Type 0} (known grows : Bool) (failures room : W → ℕ) (memory : W → Memory) (a : FileSeen W) (r : Result (Unit {0}) Fault) (b : FileSeen W) (bytes : List ℕ)
-    → FileStep known grows failures room memory a r b bytes → OnIo r (SendFails grows failures room a.device b.device)
-file_step_fails known grows failures room memory a r b bytes step =
-    told_on r ((b.state ≡ Failed) × FailsOrIsFull grows (failures a.device) (failures b.device) (room a.device) (length bytes)) (SendFails grows failures room a.device b.device)
+pub file_step_fails : {W : Type 0} (d : Device W) (a : FileSeen W) (r : Result (Unit {0}) Fault) (b : FileSeen W) (bytes : List ℕ)
+    → FileStep d a r b bytes → OnIo r (SendFails d a.device b.device)
+file_step_fails d a r b bytes step =
+    told_on r ((b.state ≡ Failed) × FailsOrIsFull d.grows (d.failures a.device) (d.failures b.device) (d.room a.device) (length bytes)) (SendFails d a.device b.device)
     (λ h. record { count = length bytes; failed = h.1 }) step.io
 
 -- A failure after chunks for which nothing failed.
@@ -85,44 +85,44 @@ front_fails gives failures law input left e Q front = input_fails failures input
 
 -- ---- the output
 
-module _ {W : Type 0} (grows : Bool) (failures room : W → ℕ) (out : W) where
-  output_is : (from to : W) → failures from ≡ failures out → SendFails grows failures room from to → OutputFails grows failures room out
+module _ {W : Type 0} (d : Device W) (out : W) where
+  output_is : (from to : W) → d.failures from ≡ d.failures out → SendFails d from to → OutputFails d out
   output_is from to same h = record { from = from; to = to; before = same; failed = h }
 
   -- A call that sends, after others that didn't fail.
-  pub send_fails : (from to : W) (e : Fault) → failures from ≡ failures out → OnIo {X = Unit {0}} (Err e) (SendFails grows failures room from to)
-      → OnIo {X = Unit {0}} (Err e) (OutputFails grows failures room out)
-  send_fails from to e same = io_through e (SendFails grows failures room from to) (OutputFails grows failures room out) (output_is from to same)
+  pub send_fails : (from to : W) (e : Fault) → d.failures from ≡ d.failures out → OnIo {X = Unit {0}} (Err e) (SendFails d from to)
+      → OnIo {X = Unit {0}} (Err e) (OutputFails d out)
+  send_fails from to e same = io_through e (SendFails d from to) (OutputFails d out) (output_is from to same)
 
   -- An output that fails, whatever the input does.
-  pub output_fails : (e : Fault) (P : Type 0) → OnIo {X = Unit {0}} (Err e) (OutputFails grows failures room out) → OnIo {X = Unit {0}} (Err e) (P ⊎ OutputFails grows failures room out)
-  output_fails e P = io_through e (OutputFails grows failures room out) (P ⊎ OutputFails grows failures room out) (λ h. inr h)
+  pub output_fails : (e : Fault) (P : Type 0) → OnIo {X = Unit {0}} (Err e) (OutputFails d out) → OnIo {X = Unit {0}} (Err e) (P ⊎ OutputFails d out)
+  output_fails e P = io_through e (OutputFails d out) (P ⊎ OutputFails d out) (λ h. inr h)
 
   -- a call that reads a file that is appended to
-  pub output_read_fails : (left : W) (e : Fault) → OnIo {X = Unit {0}} (Err e) (Rises (failures out) (failures left)) → OnIo {X = Unit {0}} (Err e) (OutputFails grows failures room out)
-  output_read_fails left e = io_through e (Rises (failures out) (failures left)) (OutputFails grows failures room out)
+  pub output_read_fails : (left : W) (e : Fault) → OnIo {X = Unit {0}} (Err e) (Rises (d.failures out) (d.failures left)) → OnIo {X = Unit {0}} (Err e) (OutputFails d out)
+  output_read_fails left e = io_through e (Rises (d.failures out) (d.failures left)) (OutputFails d out)
       (λ h. output_is out left refl (record { count = 0; failed = inl h }))
 
   -- A call after others that didn't fail.
-  pub output_opens_not : (read : W) (e : Fault) → failures read ≡ failures out → OnIo {X = Unit {0}} (Err e) (DeviceFails failures read) → OnIo {X = Unit {0}} (Err e) (OutputFails grows failures room out)
-  output_opens_not read e same = io_through e (DeviceFails failures read) (OutputFails grows failures room out)
+  pub output_opens_not : (read : W) (e : Fault) → d.failures read ≡ d.failures out → OnIo {X = Unit {0}} (Err e) (DeviceFails d.failures read) → OnIo {X = Unit {0}} (Err e) (OutputFails d out)
+  output_opens_not read e same = io_through e (DeviceFails d.failures read) (OutputFails d out)
       (λ h. output_is read h.after same (record { count = 0; failed = inl h.rises }))
 
   -- ---- both
 
   -- A copy of an input to an output; no call before the first chunk failed.
-  module _ {R S T : Type 0} (counts : R → ℕ) (input : R) (source : S → R) (sink : T → W) (a b : S) (v w : T) (unread : counts (source a) ≡ counts input) (unsent : failures (sink v) ≡ failures out) where
+  module _ {R S T : Type 0} (counts : R → ℕ) (input : R) (source : S → R) (sink : T → W) (a b : S) (v w : T) (unread : counts (source a) ≡ counts input) (unsent : d.failures (sink v) ≡ d.failures out) where
     abbrev Sends : T → T → Type 0
-    Sends t u = SendFails grows failures room (sink t) (sink u)
+    Sends t u = SendFails d (sink t) (sink u)
 
     abbrev Fails : Type 0
-    Fails = CopyFails (λ s. counts (source s)) (λ t. failures (sink t)) Sends a v b w
+    Fails = CopyFails (λ s. counts (source s)) (λ t. d.failures (sink t)) Sends a v b w
 
     abbrev Done : Type 0
-    Done = NoneFailed (λ s. counts (source s)) (λ t. failures (sink t)) a v b w
+    Done = NoneFailed (λ s. counts (source s)) (λ t. d.failures (sink t)) a v b w
 
     abbrev Why : Type 0
-    Why = DeviceFails counts input ⊎ OutputFails grows failures room out
+    Why = DeviceFails counts input ⊎ OutputFails d out
 
     one_failed : Fails → Why
     one_failed h = elim h [

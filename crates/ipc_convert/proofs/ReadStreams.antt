@@ -1,7 +1,6 @@
 -- A stream that was read to its end, or to where it waits.
 use Rattle.std.proofs.Common.{◌≡◌, ℕ, List, [], ◌∷◌, ◌++◌, Option, None, Some, Result, Ok, Err, Bool, true, false, refl, sym, ap, subst, ◌∙◌, append-nil, append_assoc, zero, suc}
 use Rattle.ipc_devices.proofs.Claims.{claims_through}
-use Rattle.ipc_devices.specs.Device.{Memory}
 use Rattle.ipc_devices.specs.Faults.{OwnFault}
 use Rattle.ipc_devices.specs.Gives.{Stop, going, ended, Follows, Gives, GivesInOrder}
 use Rattle.ipc_devices.specs.declared.fault.Fault.{Fault}
@@ -28,9 +27,10 @@ use Rattle.ipc_write.specs.Agreement.{WasStarted}
 use Rattle.ipc_convert.proofs.Marks.{item_whole, mark_whole, waits_for_next}
 use Rattle.ipc_convert.proofs.Own.{own}
 use Rattle.ipc_convert.specs.Copies.{CopiesStream, EndsWithMark, TakenToEnd, TakesStream}
-use Rattle.ipc_convert.specs.Sources.{GaveChunks, GaveNoMore, StreamBreaks, StreamCame, StreamStopped, WaitsForNext, is_end, last_stop, meant_by}
+use Rattle.ipc_convert.specs.Sources.{GaveChunks, GaveNoMore, NextOfStreamCause, StreamCame, StreamStopped, WaitsForNext, is_end, last_stop, meant_by}
 use Rattle.ipc_convert.specs.declared.chunks.Ending.{Ending}
 use Rattle.ipc_convert.specs.declared.chunks.Ending.TheVariants.{Over, Waits}
+use Rattle.ipc_devices.specs.Device.{Device}
 
 -- ---- what a device gave
 
@@ -170,10 +170,10 @@ module _ {S : Type 0} (gives : Gives S) (law : GivesInOrder gives) (h : Request)
         is_mark = λ began. rest.is_mark none;
       }
 
-step_gave : {R : Type 0} (gives : Gives R) (known : Bool) (memory : R → Memory) → GivesInOrder gives → (a b : StreamReader R) (x : Result (Option StreamState) Fault) (r : Option (Result StreamState Fault)) → next_result r ≡ x
-    → NextStep gives known memory a r b → is_over a ≡ false
+step_gave : {R : Type 0} (gives : Gives R) (d : Device R) → GivesInOrder gives → (a b : StreamReader R) (x : Result (Option StreamState) Fault) (r : Option (Result StreamState Fault)) → next_result r ≡ x
+    → NextStep gives d a r b → is_over a ≡ false
     → GaveNext gives (request_of a) (known_of a) (begun_of a) (device_of a) x (known_of b) (begun_of b) (device_of b)
-step_gave gives known memory law a b x r is step unfinished =
+step_gave gives d law a b x r is step unfinished =
     let g = step.gave unfinished in
     items_gave gives law (request_of a) x g.passed (known_of a) (known_of b) (begun_of a) (begun_of b) (device_of a) (device_of b)
     (subst (λ (y : Result (Option StreamState) Fault). ItemsGave gives (request_of a) g.passed (known_of a) (begun_of a) (device_of a) y (known_of b) (begun_of b) (device_of b)) is g.items)
@@ -189,13 +189,13 @@ not_over false h = refl
 same_reader : {R : Type 0} (a b : StreamReader R) (t : Known) (ys : List ℕ) → request_of b ≡ request_of a → chosen_meaning (request_of a) t (begun_of b ++ ys) ≡ meant_by b t ys
 same_reader a b t ys asked = ap (λ (h : Request). chosen_meaning h t (begun_of b ++ ys)) (sym asked)
 
-chunk_gave : {R : Type 0} (gives : Gives R) (known : Bool) (memory : R → Memory) → GivesInOrder gives → (a b : StreamReader R) (chunk : List AnyArray)
-    → NextStep gives known memory a (Some (Ok (states.Some chunk))) b → is_over a ≡ false → GaveChunks gives a (chunk_seen chunk ∷ []) b
-chunk_gave gives known memory law a b chunk step unfinished =
-    let g = step_gave gives known memory law a b (Ok (Some (states.Some chunk))) (Some (Ok (states.Some chunk))) refl step unfinished in
-    let asked = same_request a b step.described step.projected in
+chunk_gave : {R : Type 0} (gives : Gives R) (d : Device R) → GivesInOrder gives → (a b : StreamReader R) (chunk : List AnyArray)
+    → NextStep gives d a (Some (Ok (states.Some chunk))) b → is_over a ≡ false → GaveChunks gives a (chunk_seen chunk ∷ []) b
+chunk_gave gives d law a b chunk step unfinished =
+    let g = step_gave gives d law a b (Ok (Some (states.Some chunk))) (Some (Ok (states.Some chunk))) refl step unfinished in
+    let asked = same_request a b step.state.described step.state.projected in
     record {
-      unfinished = step.finished unfinished;
+      unfinished = step.state.finished unfinished;
       asked = asked;
       begun = λ none.
           let all = step.gave unfinished in
@@ -207,11 +207,11 @@ chunk_gave gives known memory law a b chunk step unfinished =
           (read.0, read.1, read.2 ∙ ap (with_chunks (chunk_seen chunk ∷ [])) (same_reader a b read.0 ys asked));
     }
 
-pub one_gave : {R : Type 0} (gives : Gives R) (known : Bool) (memory : R → Memory) → GivesInOrder gives → (a b : StreamReader R) (chunk : List AnyArray)
-    → NextStep gives known memory a (Some (Ok (states.Some chunk))) b → StreamCame gives a (chunk_seen chunk ∷ []) b
-one_gave gives known memory law a b chunk step = record {
-  over = λ done. let none = (step.over done).0 in absurd cc;
-  gave = λ unfinished. chunk_gave gives known memory law a b chunk step unfinished;
+pub one_gave : {R : Type 0} (gives : Gives R) (d : Device R) → GivesInOrder gives → (a b : StreamReader R) (chunk : List AnyArray)
+    → NextStep gives d a (Some (Ok (states.Some chunk))) b → StreamCame gives a (chunk_seen chunk ∷ []) b
+one_gave gives d law a b chunk step = record {
+  over = λ done. let none = (step.state.over done).0 in absurd cc;
+  gave = λ unfinished. chunk_gave gives d law a b chunk step unfinished;
 }
 
 -- ---- no chunk more
@@ -219,10 +219,10 @@ one_gave gives known memory law a b chunk step = record {
 ends_now : (over : Bool) (e : End) (m : Meant) → m ≡ record { chunks = []; end = e } → EndsAs over e → EndsNow over m
 ends_now over e m is ends = subst (λ (x : Meant). EndsNow over x) (sym is) (refl, ends)
 
-waits_now : {R : Type 0} (gives : Gives R) (known : Bool) (memory : R → Memory) → GivesInOrder gives → (a b : StreamReader R)
-    → NextStep gives known memory a (Some (Ok states.Waiting)) b → is_over a ≡ false → GaveNoMore gives a false b
-waits_now gives known memory law a b step unfinished =
-    let g = step_gave gives known memory law a b (Ok (Some states.Waiting)) (Some (Ok states.Waiting)) refl step unfinished in
+waits_now : {R : Type 0} (gives : Gives R) (d : Device R) → GivesInOrder gives → (a b : StreamReader R)
+    → NextStep gives d a (Some (Ok states.Waiting)) b → is_over a ≡ false → GaveNoMore gives a false b
+waits_now gives d law a b step unfinished =
+    let g = step_gave gives d law a b (Ok (Some states.Waiting)) (Some (Ok states.Waiting)) refl step unfinished in
     record {
       bytes = g.bytes;
       gave = subst (λ (y : Stop). gives (device_of a) g.bytes y (device_of b)) g.stops g.gave;
@@ -232,16 +232,16 @@ waits_now gives known memory law a b step unfinished =
       no_more = λ over none. absurd cc;
     }
 
-pub none_waits : {R : Type 0} (gives : Gives R) (known : Bool) (memory : R → Memory) → GivesInOrder gives → (a b : StreamReader R)
-    → NextStep gives known memory a (Some (Ok states.Waiting)) b → StreamStopped gives a Waits b
-none_waits gives known memory law a b step = record {
-  over = λ done. let none = (step.over done).0 in absurd cc;
-  gave = λ unfinished. waits_now gives known memory law a b step unfinished;
+pub none_waits : {R : Type 0} (gives : Gives R) (d : Device R) → GivesInOrder gives → (a b : StreamReader R)
+    → NextStep gives d a (Some (Ok states.Waiting)) b → StreamStopped gives a Waits b
+none_waits gives d law a b step = record {
+  over = λ done. let none = (step.state.over done).0 in absurd cc;
+  gave = λ unfinished. waits_now gives d law a b step unfinished;
 }
 
-over_now : {R : Type 0} (gives : Gives R) (known : Bool) (memory : R → Memory) → GivesInOrder gives → (a b : StreamReader R)
-    → NextStep gives known memory a None b → is_over a ≡ false → GaveNoMore gives a true b
-over_now gives known memory law a b step unfinished =
+over_now : {R : Type 0} (gives : Gives R) (d : Device R) → GivesInOrder gives → (a b : StreamReader R)
+    → NextStep gives d a None b → is_over a ≡ false → GaveNoMore gives a true b
+over_now gives d law a b step unfinished =
     let all = step.gave unfinished in
     let g = items_marked gives law (request_of a) all.passed (known_of a) (known_of b) (begun_of a) (begun_of b) (device_of a) (device_of b) all.items in
     record {
@@ -251,26 +251,26 @@ over_now gives known memory law a b step unfinished =
       no_more = λ over none. record { front = g.front; last = g.last; parts = refl; is_front = record { each = g.waiting none }; is_mark = g.is_mark none };
     }
 
-pub none_over : {R : Type 0} (gives : Gives R) (known : Bool) (memory : R → Memory) → GivesInOrder gives → (a b : StreamReader R) → NextStep gives known memory a None b → StreamStopped gives a Over b
-none_over gives known memory law a b step = record {
-  over = λ done. let still = step.over done in (refl, still.2);
-  gave = λ unfinished. over_now gives known memory law a b step unfinished;
+pub none_over : {R : Type 0} (gives : Gives R) (d : Device R) → GivesInOrder gives → (a b : StreamReader R) → NextStep gives d a None b → StreamStopped gives a Over b
+none_over gives d law a b step = record {
+  over = λ done. let still = step.state.over done in (refl, still.2);
+  gave = λ unfinished. over_now gives d law a b step unfinished;
 }
 
 -- ---- an error
 
-pub one_fault : {R : Type 0} (gives : Gives R) (known : Bool) (memory : R → Memory) → GivesInOrder gives → (a b : StreamReader R) (e : Fault)
-    → NextStep gives known memory a (Some (Err e)) b → OwnFault e (StreamBreaks gives a e)
-one_fault gives known memory law a b e step = own e (StreamBreaks gives a e) (λ it.
-    let unfinished : is_over a ≡ false = not_over (is_over a) (λ done. let none = (step.over done).0 in absurd cc) in
-    let g = step_gave gives known memory law a b (Err e) (Some (Err e)) refl step unfinished in (
+pub one_fault : {R : Type 0} (gives : Gives R) (d : Device R) → GivesInOrder gives → (a b : StreamReader R) (e : Fault)
+    → NextStep gives d a (Some (Err e)) b → OwnFault e (NextOfStreamCause gives a e)
+one_fault gives d law a b e step = own e (NextOfStreamCause gives a e) (λ it.
+    let unfinished : is_over a ≡ false = not_over (is_over a) (λ done. let none = (step.state.over done).0 in absurd cc) in
+    let g = step_gave gives d law a b (Err e) (Some (Err e)) refl step unfinished in (
       unfinished,
       record {
         bytes = g.bytes;
         stop = g.stop;
         left = device_of b;
         gave = g.gave;
-        kind = it (IsStreamFault (request_of a) e) step.only;
+        kind = it (IsStreamFault (request_of a) e) step.causes;
         means = λ s ys at f. it (meant_by a s (g.bytes ++ ys) ≡ record { chunks = []; end = faulty }) ((g.next ys f).each s at);
       },
     ))

@@ -7,7 +7,7 @@ use Rattle.lower_arrays.specs.AnyLayouts.{layout_of}
 use Rattle.lower_arrays.specs.declared.array.AnyArray.{AnyArray}
 use Rattle.ipc_devices.proofs.Claims.{claimed}
 use Rattle.ipc_base.specs.IdTrees.{IdTrees}
-use Rattle.ipc_devices.specs.Device.{Memory, before}
+use Rattle.ipc_devices.specs.Device.{Device, before}
 use Rattle.ipc_devices.specs.Faults.{OnRefused, OwnFault}
 use Rattle.ipc_devices.specs.declared.fault.Fault.{Fault}
 use Rattle.ipc_stream_lemmas.specs.Messages.{column_written}
@@ -46,28 +46,28 @@ written_seen : (xs : List AnyArray) → chunk_written xs ≡ normal_chunk (chunk
 written_seen [] = refl
 written_seen (x ∷ xs) = ap (λ (cs : Chunk). column_written (layout_of x) ∷ cs) (written_seen xs)
 
-one_took : {W : Type 0} (known : Bool) (memory : W → Memory) (v w : WriterSeen W) (columns : List AnyArray) (ids : Option IdTrees) (x : Unit {0})
-    → streams.Appends known memory v (Ok x) w (chunk_written columns) → TakesChunk v w columns ids → TookChunks known memory v (chunk_seen columns ∷ []) w
-one_took known memory v w columns ids x appends takes = record {
+one_took : {W : Type 0} (d : Device W) (v w : WriterSeen W) (columns : List AnyArray) (ids : Option IdTrees) (x : Unit {0})
+    → streams.Appends d v (Ok x) w (chunk_written columns) → TakesChunk v w columns ids → TookChunks d v (chunk_seen columns ∷ []) w
+one_took d v w columns ids x appends takes = record {
   state = takes.is ∙ sym takes.was;
   types = takes.types;
   ids = takes.ids_stay;
   stream = λ k base head so_far agrees.
-      subst (λ (c : Chunk). Agrees memory w base head (so_far ++ c ∷ [])) (written_seen columns) (appends.appended k base head so_far agrees);
+      subst (λ (c : Chunk). Agrees d w base head (so_far ++ c ∷ [])) (written_seen columns) (appends.appended k base head so_far agrees);
 }
 
-pub stream_took : {W : Type 0} (known : Bool) (memory : W → Memory) (v w : WriterSeen W) (columns : List AnyArray) (ids : Option IdTrees) (r : Result (Unit {0}) Fault)
-    → streams.Appends known memory v r w (chunk_written columns) → OnOk r (TakesChunk v w columns ids) → OnOk r (TookChunks known memory v (chunk_seen columns ∷ []) w)
-stream_took known memory v w columns ids (Ok x) appends takes = one_took known memory v w columns ids x appends takes
-stream_took known memory v w columns ids (Err e) appends takes = tt
+pub stream_took : {W : Type 0} (d : Device W) (v w : WriterSeen W) (columns : List AnyArray) (ids : Option IdTrees) (r : Result (Unit {0}) Fault)
+    → streams.Appends d v r w (chunk_written columns) → OnOk r (TakesChunk v w columns ids) → OnOk r (TookChunks d v (chunk_seen columns ∷ []) w)
+stream_took d v w columns ids (Ok x) appends takes = one_took d v w columns ids x appends takes
+stream_took d v w columns ids (Err e) appends takes = tt
 
-pub file_took : {W : Type 0} (known grows : Bool) (failures room : W → ℕ) (memory : W → Memory) (v w : FileSeen W) (columns : List AnyArray) (r : Result (Unit {0}) Fault)
-    → WritesNext known failures memory v columns r w → writes.SendsColumns known grows failures room memory v r w columns → OnOk r (TookBlocks known memory v (chunk_seen columns ∷ []) w)
-file_took known grows failures room memory v w columns (Ok x) wrote sends = record {
+pub file_took : {W : Type 0} (d : Device W) (v w : FileSeen W) (columns : List AnyArray) (r : Result (Unit {0}) Fault)
+    → WritesNext d v columns r w → writes.SendsColumns d v r w columns → OnOk r (TookBlocks d v (chunk_seen columns ∷ []) w)
+file_took d v w columns (Ok x) wrote sends = record {
   state = sends.takes.is ∙ sym sends.takes.was;
-  takes = subst (λ (c : Chunk). TakesChunks known memory v w (c ∷ [])) (written_seen columns) wrote.takes;
+  takes = subst (λ (c : Chunk). TakesChunks d v w (c ∷ [])) (written_seen columns) wrote.takes;
 }
-file_took known grows failures room memory v w columns (Err e) wrote sends = tt
+file_took d v w columns (Err e) wrote sends = tt
 
 -- ---- a refused one
 
@@ -76,32 +76,32 @@ if_refused (Ok x) f p = tt
 if_refused (Err e) f p = refused_then (Unit {0}) (Unit {0}) e (f e refl) p
 
 -- Nothing was written if all that the writer had stays.
-none_took : {W : Type 0} (known : Bool) (memory : W → Memory) (v w : WriterSeen W) → w.state ≡ v.state → w.types ≡ v.types → w.ids ≡ v.ids
-    → (IsTrue known → (base : List ℕ) (head : Head) (so_far : List Chunk) → Agrees memory v base head so_far → Agrees memory w base head so_far) → TookChunks known memory v [] w
-none_took known memory v w state types ids stays = record {
+none_took : {W : Type 0} (d : Device W) (v w : WriterSeen W) → w.state ≡ v.state → w.types ≡ v.types → w.ids ≡ v.ids
+    → (IsTrue d.is_memory → (base : List ℕ) (head : Head) (so_far : List Chunk) → Agrees d v base head so_far → Agrees d w base head so_far) → TookChunks d v [] w
+none_took d v w state types ids stays = record {
   state = state;
   types = types;
   ids = ids;
-  stream = λ k base head so_far agrees. subst (λ (cs : List Chunk). Agrees memory w base head cs) (sym (append-nil so_far)) (stays k base head so_far agrees);
+  stream = λ k base head so_far agrees. subst (λ (cs : List Chunk). Agrees d w base head cs) (sym (append-nil so_far)) (stays k base head so_far agrees);
 }
 
-pub stream_kept : {W : Type 0} (known grows : Bool) (failures room : W → ℕ) (memory : W → Memory) (v w : WriterSeen W) (columns : List AnyArray) (r : Result (Unit {0}) Fault)
-    → streams.Appends known memory v r w (chunk_written columns) → SendsStep known grows failures room memory v r w columns → OnRefused r (TookChunks known memory v [] w)
-stream_kept known grows failures room memory v w columns r appends sends =
+pub stream_kept : {W : Type 0} (d : Device W) (v w : WriterSeen W) (columns : List AnyArray) (r : Result (Unit {0}) Fault)
+    → streams.Appends d v r w (chunk_written columns) → SendsStep d v r w columns → OnRefused r (TookChunks d v [] w)
+stream_kept d v w columns r appends sends =
     if_refused r (λ e is kept.
-    none_took known memory v w kept.state kept.types kept.ids
-    (λ k base head so_far agrees. subst (λ (x : Result (Unit {0}) Fault). OnErr x (Agrees memory w base head so_far)) is (appends.kept k base head so_far agrees)))
+    none_took d v w kept.state kept.types kept.ids
+    (λ k base head so_far agrees. subst (λ (x : Result (Unit {0}) Fault). OnErr x (Agrees d w base head so_far)) is (appends.kept k base head so_far agrees)))
     sends.step.refused
 
-took_none : {W : Type 0} (known : Bool) (failures : W → ℕ) (memory : W → Memory) (v w : FileSeen W) (columns : List AnyArray) (e : Fault) → WritesNext known failures memory v columns (Err e) w → TakesChunks known memory v w []
-took_none known failures memory v w columns e wrote = wrote.takes
+took_none : {W : Type 0} (d : Device W) (v w : FileSeen W) (columns : List AnyArray) (e : Fault) → WritesNext d v columns (Err e) w → TakesChunks d v w []
+took_none d v w columns e wrote = wrote.takes
 
-pub file_kept : {W : Type 0} (known grows : Bool) (failures room : W → ℕ) (memory : W → Memory) (v w : FileSeen W) (columns : List AnyArray) (r : Result (Unit {0}) Fault)
-    → WritesNext known failures memory v columns r w → writes.SendsColumns known grows failures room memory v r w columns → OnRefused r (TookBlocks known memory v [] w)
-file_kept known grows failures room memory v w columns r wrote sends =
+pub file_kept : {W : Type 0} (d : Device W) (v w : FileSeen W) (columns : List AnyArray) (r : Result (Unit {0}) Fault)
+    → WritesNext d v columns r w → writes.SendsColumns d v r w columns → OnRefused r (TookBlocks d v [] w)
+file_kept d v w columns r wrote sends =
     if_refused r (λ e is kept. record {
       state = kept.state;
-      takes = took_none known failures memory v w columns e (subst (λ (x : Result (Unit {0}) Fault). WritesNext known failures memory v columns x w) is wrote);
+      takes = took_none d v w columns e (subst (λ (x : Result (Unit {0}) Fault). WritesNext d v columns x w) is wrote);
     }) sends.step.refused
 
 -- Why a chunk is refused, by the call's contract.
@@ -118,18 +118,18 @@ file_refuses v columns (Err e) exact named = claimed e (writes.WritesExactly v c
 -- ---- a stream
 
 -- What was written of a stream that was begun and to which these chunks were written.
-abbrev pub Holds : {W : Type 0} → (W → Memory) → Endianness → W → Schema → List Chunk → WriterSeen W → Type 0
-Holds memory order out schema cs w = Agrees memory w (before (memory out)) (normal_head order schema) (normal_chunks cs)
+abbrev pub Holds : {W : Type 0} → Device W → Endianness → W → Schema → List Chunk → WriterSeen W → Type 0
+Holds d order out schema cs w = Agrees d w (before (d.memory out)) (normal_head order schema) (normal_chunks cs)
 
-pub begun_stream : {W : Type 0} (known : Bool) (memory : W → Memory) (order : Endianness) (out : W) (schema : Schema) (ids : IdTrees) (u v w : WriterSeen W) (cs : List Chunk) (x : Unit {0})
-    → IsTrue known → ids ≡ schema.ids → u.device ≡ out → IsFresh memory u → BeginsStream known memory u (Ok x) v (written_head_as order schema.fields schema.metadata ids)
-    → TookChunks known memory v cs w → Holds memory order out schema cs w
-begun_stream {W = W} known memory order out schema ids u v w cs x k same at fresh begun took =
+pub begun_stream : {W : Type 0} (d : Device W) (order : Endianness) (out : W) (schema : Schema) (ids : IdTrees) (u v w : WriterSeen W) (cs : List Chunk) (x : Unit {0})
+    → IsTrue d.is_memory → ids ≡ schema.ids → u.device ≡ out → IsFresh d u → BeginsStream d u (Ok x) v (written_head_as order schema.fields schema.metadata ids)
+    → TookChunks d v cs w → Holds d order out schema cs w
+begun_stream {W = W} d order out schema ids u v w cs x k same at fresh begun took =
     let head_with : IdTrees → Head = λ is. written_head_as order schema.fields schema.metadata is in
-    let new : Agrees memory u (before (memory out)) (head_with ids) [] =
-    subst (λ (y : W). Agrees memory u (before (memory y)) (head_with ids) []) at (fresh.agrees (head_with ids)) in
-    let started : Agrees memory v (before (memory out)) (head_with ids) [] = begun.begun k (before (memory out)) [] new in
-    took.stream k (before (memory out)) (normal_head order schema) [] (subst (λ (is : IdTrees). Agrees memory v (before (memory out)) (head_with is) []) same started)
+    let new : Agrees d u (before (d.memory out)) (head_with ids) [] =
+    subst (λ (y : W). Agrees d u (before (d.memory y)) (head_with ids) []) at (fresh.agrees (head_with ids)) in
+    let started : Agrees d v (before (d.memory out)) (head_with ids) [] = begun.begun k (before (d.memory out)) [] new in
+    took.stream k (before (d.memory out)) (normal_head order schema) [] (subst (λ (is : IdTrees). Agrees d v (before (d.memory out)) (head_with is) []) same started)
 
 -- How a started writer is left if its source ends so.
 abbrev pub LeftAt : Bool → WriterState → Type 0
@@ -147,18 +147,18 @@ ends_so false marked w bytes head cs is left h = absurd is
 ends_so false faulty w bytes head cs is left h = absurd is
 
 -- A stream to which its chunks were written and that was ended like its source.
-pub ended_stream : {W : Type 0} (known : Bool) (memory : W → Memory) (order : Endianness) (out : W) (schema : Schema) (cs : List Chunk) (ending : Ending) (v w x : WriterSeen W) → IsTrue known → v.state ≡ Started
-    → w.state ≡ v.state → EndsAsSource known memory ending w x → Holds memory order out schema cs w → LeftAt (is_end ending) x.state × Holds memory order out schema cs x
-ended_stream {W = W} known memory order out schema cs Waits v w x k started same is holds =
-    (ap (λ (y : WriterSeen W). y.state) is ∙ same ∙ started, subst (λ (y : WriterSeen W). Holds memory order out schema cs y) (sym is) holds)
-ended_stream known memory order out schema cs Over v w x k started same ends holds =
-    (ends.0, ends.1.kept k (before (memory out)) (normal_head order schema) (normal_chunks cs) holds)
+pub ended_stream : {W : Type 0} (d : Device W) (order : Endianness) (out : W) (schema : Schema) (cs : List Chunk) (ending : Ending) (v w x : WriterSeen W) → IsTrue d.is_memory → v.state ≡ Started
+    → w.state ≡ v.state → EndsAsSource d ending w x → Holds d order out schema cs w → LeftAt (is_end ending) x.state × Holds d order out schema cs x
+ended_stream {W = W} d order out schema cs Waits v w x k started same is holds =
+    (ap (λ (y : WriterSeen W). y.state) is ∙ same ∙ started, subst (λ (y : WriterSeen W). Holds d order out schema cs y) (sym is) holds)
+ended_stream d order out schema cs Over v w x k started same ends holds =
+    (ends.0, ends.1.kept k (before (d.memory out)) (normal_head order schema) (normal_chunks cs) holds)
 
-pub stream_written : {W : Type 0} (memory : W → Memory) (order : Endianness) (out last : W) (schema : Schema) (cs : List Chunk) (w : WriterSeen W) (over : Bool) (e : End) → last ≡ w.device
-    → LeftAt over w.state → Holds memory order out schema cs w → EndsAs over e → WritesStream order (memory out) (memory last) schema cs e
-stream_written {W = W} memory order out last schema cs w over e at left holds is = record {
+pub stream_written : {W : Type 0} (d : Device W) (order : Endianness) (out last : W) (schema : Schema) (cs : List Chunk) (w : WriterSeen W) (over : Bool) (e : End) → last ≡ w.device
+    → LeftAt over w.state → Holds d order out schema cs w → EndsAs over e → WritesStream order (d.memory out) (d.memory last) schema cs e
+stream_written {W = W} d order out last schema cs w over e at left holds is = record {
   bytes = holds.bytes;
-  written = subst (λ (y : W). before (memory y) ≡ before (memory out) ++ holds.bytes) (sym at) holds.held;
+  written = subst (λ (y : W). before (d.memory y) ≡ before (d.memory out) ++ holds.bytes) (sym at) holds.held;
   same = ends_so over e w holds.bytes (normal_head order schema) (normal_chunks cs) is left holds.stream;
 }
 
@@ -184,11 +184,11 @@ whole_file w order fs es ids pairs bytes cs o f m i p whole =
     }
 
 -- A writer that was made, whose pairs were set, and that was started.
-pub file_begun : {W : Type 0} (known grows : Bool) (failures room : W → ℕ) (memory : W → Memory) (out : W) (big : Bool) (fields : FieldTrees) (metadata : Pairs) (ids : IdTrees) (pairs : Pairs) (u t v : FileSeen W) (x : Unit {0})
-    → u.device ≡ out → files.HasNothing memory u → files.IsFileOf u fields metadata ids (byte_order (not big)) [] → files.TakesPairs u t pairs → files.Remains known memory u t
-    → files.SendsBeginning known grows failures room memory t (Ok x) v → files.StartsWith t v → files.Remains known memory t v
-    → BeginsFile known memory out (if big then Big else Little) fields metadata ids pairs v
-file_begun {W = W} known grows failures room memory out big fs es ids pairs u t v x at nothing is takes kept sends starts remains =
+pub file_begun : {W : Type 0} (d : Device W) (out : W) (big : Bool) (fields : FieldTrees) (metadata : Pairs) (ids : IdTrees) (pairs : Pairs) (u t v : FileSeen W) (x : Unit {0})
+    → u.device ≡ out → files.HasNothing d u → files.IsFileOf u fields metadata ids (byte_order (not big)) [] → files.TakesPairs u t pairs → files.Remains d u t
+    → files.SendsBeginning d t (Ok x) v → files.StartsWith t v → files.Remains d t v
+    → BeginsFile d out (if big then Big else Little) fields metadata ids pairs v
+file_begun {W = W} d out big fs es ids pairs u t v x at nothing is takes kept sends starts remains =
     let same = sends.step.same in
     record {
       state = starts.is;
@@ -198,23 +198,23 @@ file_begun {W = W} known grows failures room memory out big fs es ids pairs u t 
       ids_are = starts.ids ∙ takes.chosen ∙ is.chosen_are;
       pairs_are = same.pairs ∙ takes.are;
       agrees = λ k.
-          let base = before (memory out) in
-          let first : HoldsBytes true (memory u.device) u base [] = subst (λ (y : W). HoldsBytes true (memory u.device) u (before (memory y)) []) at nothing.agrees in
+          let base = before (d.memory out) in
+          let first : HoldsBytes true (d.memory u.device) u base [] = subst (λ (y : W). HoldsBytes true (d.memory u.device) u (before (d.memory y)) []) at nothing.agrees in
           remains.kept k true base [] (kept.kept k true base [] first);
     }
 
-pub file_written_so : {W : Type 0} (known grows : Bool) (failures room : W → ℕ) (memory : W → Memory) (order : Endianness) (out last : W) (schema : Schema) (pairs given : Pairs) (fields : FieldTrees) (metadata : Pairs) (ids : IdTrees)
+pub file_written_so : {W : Type 0} (d : Device W) (order : Endianness) (out last : W) (schema : Schema) (pairs given : Pairs) (fields : FieldTrees) (metadata : Pairs) (ids : IdTrees)
     (cs : List Chunk) (copied : Result Ending Fault) (ending : Ending) (v w x : FileSeen W)
-    → IsTrue known → fields ≡ schema.fields → metadata ≡ schema.metadata → ids ≡ schema.ids → given ≡ pairs → last ≡ x.device
-    → BeginsFile known memory out order fields metadata ids given v → TakesChunks known memory v w (normal_chunks cs) → EndsCopy known grows failures room memory copied ending w x
-    → WritesFile order (memory out) (memory last) schema pairs cs
-file_written_so {W = W} known grows failures room memory order out last schema pairs given fs es ids cs copied ending v w x k f m i p at begins took ends =
-    let holds : HoldsBytes true (memory x.device) x (before (memory out)) (normal_chunks cs) =
-    ends.remains.kept k true (before (memory out)) (normal_chunks cs) (took.holds k true (before (memory out)) [] (begins.agrees k)) in
+    → IsTrue d.is_memory → fields ≡ schema.fields → metadata ≡ schema.metadata → ids ≡ schema.ids → given ≡ pairs → last ≡ x.device
+    → BeginsFile d out order fields metadata ids given v → TakesChunks d v w (normal_chunks cs) → EndsCopy d copied ending w x
+    → WritesFile order (d.memory out) (d.memory last) schema pairs cs
+file_written_so {W = W} d order out last schema pairs given fs es ids cs copied ending v w x k f m i p at begins took ends =
+    let holds : HoldsBytes true (d.memory x.device) x (before (d.memory out)) (normal_chunks cs) =
+    ends.remains.kept k true (before (d.memory out)) (normal_chunks cs) (took.holds k true (before (d.memory out)) [] (begins.agrees k)) in
     let whole : IsWholeFile true x holds.bytes (normal_chunks cs) = subst (λ (s : WriterState). FileIs true s x holds.bytes (normal_chunks cs)) ends.ends.is holds.file in
     record {
       bytes = holds.bytes;
-      written = subst (λ (y : W). before (memory y) ≡ before (memory out) ++ holds.bytes) (sym at) holds.held;
+      written = subst (λ (y : W). before (d.memory y) ≡ before (d.memory out) ++ holds.bytes) (sym at) holds.held;
       same = whole_file x order schema.fields schema.metadata schema.ids pairs holds.bytes (normal_chunks cs)
           (ends.sends.step.same.order ∙ took.same.order ∙ begins.order_is)
           (ends.sends.step.same.fields ∙ took.same.fields ∙ begins.fields_are ∙ f)

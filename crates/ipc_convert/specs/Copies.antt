@@ -1,11 +1,11 @@
 -- Streams and files that are copied.
 -- (Arrow columnar format, "IPC Streaming Format" and "IPC File Format".)
-use Rattle.std.specs.Prelude.{◌≡◌, ◌⊎◌, ℕ, IsTrue, Bool, List, [], ◌++◌, map, None, Some}
+use Rattle.std.specs.Prelude.{◌≡◌, ◌⊎◌, ℕ, IsTrue, List, [], ◌++◌, map, None, Some}
 use Rattle.lower.specs.Normal.{norm_schema}
 use Rattle.lower.specs.TypeTrees.{FieldTrees, Pairs}
 use Rattle.lower_types.specs.declared.Endianness.{Endianness}
 use Rattle.ipc_base.specs.IdTrees.{IdTrees}
-use Rattle.ipc_devices.specs.Device.{Memory, before}
+use Rattle.ipc_devices.specs.Device.{Device, Memory, before}
 use Rattle.ipc_devices.specs.Gives.{Gives, Stop, ended, going}
 use Rattle.ipc_model.specs.Batches.{Chunk, Schema}
 use Rattle.ipc_model.specs.Entries.{Dictionaries}
@@ -115,5 +115,5 @@ pub record CopiesFile (bytes : List ℕ) (Writes : Schema → Pairs → List Chu
 
 -- The file at offset 0 of a device that is memory was read, and `Writes` holds of its
 -- schema, its pairs and its chunks.
-abbrev pub CopiesFileOf : {F : Type 0} → Bool → (F → Memory) → F → (Schema → Pairs → List Chunk → Type 0) → Type 0
-CopiesFileOf known memory file Writes = IsTrue known → (memory file).place ≡ 0 → CopiesFile (memory file).whole Writes
+abbrev pub CopiesFileOf : {F : Type 0} → Device F → F → (Schema → Pairs → List Chunk → Type 0) → Type 0
+CopiesFileOf d file Writes = IsTrue d.is_memory → (d.memory file).place ≡ 0 → CopiesFile (d.memory file).whole Writes

@@ -1,3 +1,4 @@
+pub mod Api
 pub mod Chunks
 pub mod Copies
 pub mod Failures

@@ -1,7 +1,6 @@
 -- Theorems: what a source gave in two steps, it gave in order.
-use Rattle.std.proofs.Common.{◌≡◌, ◌⊎◌, ℕ, Bool, List, [], ◌++◌, Some, inl, inr, refl, sym, ap, subst, ◌∙◌, append-nil, append_assoc, length-append, arith}
+use Rattle.std.proofs.Common.{◌≡◌, ◌⊎◌, ℕ, List, [], ◌++◌, Some, inl, inr, refl, sym, ap, subst, ◌∙◌, append-nil, append_assoc, length-append, arith}
 use Rattle.std.specs.Prelude.{IsSome}
-use Rattle.ipc_devices.specs.Device.{Memory}
 use Rattle.ipc_devices.specs.Gives.{going, Gives, GivesInOrder, GivesNothing}
 use Rattle.ipc_model.specs.Batches.{Chunk}
 use Rattle.ipc_model.specs.Entries.{Dictionaries}
@@ -13,6 +12,7 @@ use Rattle.ipc_file_readers.specs.Readers as files
 use Rattle.ipc_file_readers.specs.declared.read.reader.state.FileReader.{FileReader}
 use Rattle.ipc_convert.specs.Chunks.{MovedInTurn, Nothing}
 use Rattle.ipc_convert.specs.Sources.{FileCame, FirstAre, GaveBlocks, GaveChunks, StreamCame, bytes_of, meant_by}
+use Rattle.ipc_devices.specs.Device.{Device}
 
 -- ---- a stream
 
@@ -58,14 +58,14 @@ stream_came_in_order gives law a xs b ys c one more = record {
 
 -- ---- a file
 
-pub file_came_nothing : {R : Type 0} (known : Bool) (memory : R → Memory) → Nothing (FileCame known memory)
-file_came_nothing known memory a = λ k whole. record {
+pub file_came_nothing : {R : Type 0} (d : Device R) → Nothing (FileCame d)
+file_came_nothing d a = λ k whole. record {
   file = refl;
   bytes = refl;
   whole = whole;
   block = omega arith;
   some = inl refl;
-  chunks = λ ds so_far found first. subst (λ (cs : List Chunk). FirstAre (files.file_of a) ds (bytes_of memory a) (files.block_of a) cs) (sym (append-nil so_far)) first;
+  chunks = λ ds so_far found first. subst (λ (cs : List Chunk). FirstAre (files.file_of a) ds (bytes_of d a) (files.block_of a) cs) (sym (append-nil so_far)) first;
 }
 
 -- What holds of a file holds of an equal one.
@@ -90,20 +90,20 @@ none_or_some m n xs ys cs ds e f p q = elim p [
   ]
 ]
 
-gave_blocks : {R : Type 0} (memory : R → Memory) (a b c : FileReader R) (xs ys : List Chunk) → GaveBlocks memory a xs b → GaveBlocks memory b ys c → GaveBlocks memory a (xs ++ ys) c
-gave_blocks memory a b c xs ys one more = record {
+gave_blocks : {R : Type 0} (d : Device R) (a b c : FileReader R) (xs ys : List Chunk) → GaveBlocks d a xs b → GaveBlocks d b ys c → GaveBlocks d a (xs ++ ys) c
+gave_blocks d a b c xs ys one more = record {
   file = more.file ∙ one.file;
   bytes = more.bytes ∙ one.bytes;
   whole = more.whole;
   block = let both = length-append xs ys in omega (arith, one.block, more.block, both);
-  some = none_or_some (files.file_of a) (files.file_of b) (bytes_of memory a) (bytes_of memory b) xs ys one.file one.bytes one.some more.some;
+  some = none_or_some (files.file_of a) (files.file_of b) (bytes_of d a) (bytes_of d b) xs ys one.file one.bytes one.some more.some;
   chunks = λ ds so_far found first.
-      let then = of_same (files.file_of a) (files.file_of b) (bytes_of memory a) (bytes_of memory b) (files.block_of b) (files.block_of c) ys one.file one.bytes more.chunks in
-      subst (λ (cs : List Chunk). FirstAre (files.file_of a) ds (bytes_of memory a) (files.block_of c) cs) (append_assoc so_far xs ys)
+      let then = of_same (files.file_of a) (files.file_of b) (bytes_of d a) (bytes_of d b) (files.block_of b) (files.block_of c) ys one.file one.bytes more.chunks in
+      subst (λ (cs : List Chunk). FirstAre (files.file_of a) ds (bytes_of d a) (files.block_of c) cs) (append_assoc so_far xs ys)
       (then ds (so_far ++ xs) found (one.chunks ds so_far found first));
 }
 
-pub file_came_in_order : {R : Type 0} (known : Bool) (memory : R → Memory) → MovedInTurn (FileCame known memory)
-file_came_in_order known memory a xs b ys c one more = λ k whole.
+pub file_came_in_order : {R : Type 0} (d : Device R) → MovedInTurn (FileCame d)
+file_came_in_order d a xs b ys c one more = λ k whole.
     let first = one k whole in
-    gave_blocks memory a b c xs ys first (more k first.whole)
+    gave_blocks d a b c xs ys first (more k first.whole)

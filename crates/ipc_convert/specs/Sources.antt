@@ -1,7 +1,6 @@
 -- Chunks that are read from a stream or from a file.
 -- (Arrow columnar format, "IPC Streaming Format" and "IPC File Format".)
 use Rattle.std.specs.Prelude.{◌≡◌, ◌⊎◌, ℕ, ◌+◌, Bool, true, false, IsSome, IsTrue, List, [], ◌++◌, length, map, slice_get, take, Option, None, Some}
-use Rattle.ipc_devices.specs.Device.{Memory}
 use Rattle.ipc_devices.specs.Gives.{Follows, Stop, ended, going, Gives}
 use Rattle.ipc_devices.specs.declared.fault.Fault.{Fault}
 use Rattle.ipc_stream_lemmas.specs.Agreement.{AreAlike}
@@ -23,6 +22,7 @@ use Rattle.ipc_convert.specs.Chunks.{BreaksAt, Moved}
 use Rattle.ipc_convert.specs.Copies.{EndsWithMark}
 use Rattle.ipc_convert.specs.declared.chunks.Ending.{Ending}
 use Rattle.ipc_convert.specs.declared.chunks.Ending.TheVariants.{Over, Waits}
+use Rattle.ipc_devices.specs.Device.{Device}
 
 -- ---- a stream
 
@@ -94,14 +94,14 @@ abbrev pub StreamStopped : {R : Type 0} → Gives R → StreamReader R → Endin
 StreamStopped gives a ending b = EndedSo gives a ending b
 
 -- An error comes from a stream that hasn't ended.
-abbrev pub StreamBreaks : {R : Type 0} → Gives R → BreaksAt (StreamReader R)
-StreamBreaks gives a e = (is_over a ≡ false) × GaveFault gives a e
+abbrev pub NextOfStreamCause : {R : Type 0} → Gives R → BreaksAt (StreamReader R)
+NextOfStreamCause gives a e = (is_over a ≡ false) × GaveFault gives a e
 
 -- ---- a file
 
 -- The bytes of a file that is read.
-abbrev pub bytes_of : {R : Type 0} → (R → Memory) → FileReader R → List ℕ
-bytes_of memory r = (memory (files.device_of r)).whole
+abbrev pub bytes_of : {R : Type 0} → Device R → FileReader R → List ℕ
+bytes_of d r = (d.memory (files.device_of r)).whole
 
 -- No dictionaries were read, or those of the file.
 abbrev pub AreOfFile : Option Dictionaries → Option Dictionaries → Type 0
@@ -109,29 +109,29 @@ AreOfFile None file = Unit {0}
 AreOfFile (Some known) file = AreAlike file (Some known)
 
 -- A file reader reads all columns and rows of each chunk.
-pub record ReadsWhole {R : Type 0} (memory : R → Memory) (r : FileReader R) : Type 0 where
+pub record ReadsWhole {R : Type 0} (d : Device R) (r : FileReader R) : Type 0 where
   pub columns : files.asked_of r ≡ None
   pub rows : files.remaining_of r ≡ None
-  pub known : AreOfFile (files.known_of r) (file_dictionaries (files.file_of r) (bytes_of memory r))
+  pub known : AreOfFile (files.known_of r) (file_dictionaries (files.file_of r) (bytes_of d r))
 
 -- The chunks at the first i blocks are these.
 abbrev pub FirstAre : FileMetadata → Dictionaries → List ℕ → ℕ → List Chunk → Type 0
 FirstAre m known bytes i cs = chunks_at m known (all_of bytes) None None (take i m.blocks) ≡ map Some cs
 
 -- From state a to b a file reader read these chunks: they are those at the next blocks.
-pub record GaveBlocks {R : Type 0} (memory : R → Memory) (a : FileReader R) (cs : List Chunk) (b : FileReader R) : Type 0 where
+pub record GaveBlocks {R : Type 0} (d : Device R) (a : FileReader R) (cs : List Chunk) (b : FileReader R) : Type 0 where
   pub file : files.file_of b ≡ files.file_of a
-  pub bytes : bytes_of memory b ≡ bytes_of memory a
-  pub whole : ReadsWhole memory b
+  pub bytes : bytes_of d b ≡ bytes_of d a
+  pub whole : ReadsWhole d b
   pub block : files.block_of b ≡ files.block_of a + length cs
-  pub some : (cs ≡ []) ⊎ IsSome (file_dictionaries (files.file_of a) (bytes_of memory a))
-  pub chunks : (known : Dictionaries) (so_far : List Chunk) → file_dictionaries (files.file_of a) (bytes_of memory a) ≡ Some known
-      → FirstAre (files.file_of a) known (bytes_of memory a) (files.block_of a) so_far
-      → FirstAre (files.file_of a) known (bytes_of memory a) (files.block_of b) (so_far ++ cs)
+  pub some : (cs ≡ []) ⊎ IsSome (file_dictionaries (files.file_of a) (bytes_of d a))
+  pub chunks : (known : Dictionaries) (so_far : List Chunk) → file_dictionaries (files.file_of a) (bytes_of d a) ≡ Some known
+      → FirstAre (files.file_of a) known (bytes_of d a) (files.block_of a) so_far
+      → FirstAre (files.file_of a) known (bytes_of d a) (files.block_of b) (so_far ++ cs)
 
 -- A file reader that reads all of each chunk read these chunks.
-abbrev pub FileCame : {R : Type 0} → Bool → (R → Memory) → Moved (FileReader R)
-FileCame known memory a cs b = IsTrue known → ReadsWhole memory a → GaveBlocks memory a cs b
+abbrev pub FileCame : {R : Type 0} → Device R → Moved (FileReader R)
+FileCame d a cs b = IsTrue d.is_memory → ReadsWhole d a → GaveBlocks d a cs b
 
 -- A file reader is after its last block, and no chunk comes.
 abbrev pub FileStopped : {R : Type 0} → FileReader R → Ending → FileReader R → Type 0
@@ -139,12 +139,12 @@ FileStopped a ending b = (ending ≡ Over) × (files.is_over a ≡ true)
 
 -- The dictionaries of a file have no meaning, and the error is that of the
 -- first faulty dictionary block.
-pub record LacksDictionaries (m : FileMetadata) (bytes : List ℕ) (e : Fault) : Type 0 where
+pub record FileDictionariesCause (m : FileMetadata) (bytes : List ℕ) (e : Fault) : Type 0 where
   pub none : file_dictionaries m bytes ≡ None
   pub reason : DictionariesReason m bytes [] m.dictionaries e
 
 -- A block of a file has no chunk, and the error is that of its message.
-pub record LacksChunk (m : FileMetadata) (bytes : List ℕ) (e : Fault) : Type 0 where
+pub record FileChunkCause (m : FileMetadata) (bytes : List ℕ) (e : Fault) : Type 0 where
   pub block : ℕ
   pub known : Dictionaries
   pub dictionaries : file_dictionaries m bytes ≡ Some known
@@ -152,10 +152,10 @@ pub record LacksChunk (m : FileMetadata) (bytes : List ℕ) (e : Fault) : Type 0
   pub reason : RecordReason m (chosen None (count (kinds m.schema))) bytes (slice_get m.blocks block) e
 
 -- The dictionaries of a file, or one of its blocks, have no meaning, and the error says why.
-abbrev pub LacksPart : FileMetadata → List ℕ → Fault → Type 0
-LacksPart m bytes e = LacksDictionaries m bytes e ⊎ LacksChunk m bytes e
+abbrev pub FilePartCause : FileMetadata → List ℕ → Fault → Type 0
+FilePartCause m bytes e = FileDictionariesCause m bytes e ⊎ FileChunkCause m bytes e
 
 -- An error of a file reader that reads all of each chunk: the
 -- dictionaries or a block have no meaning.
-abbrev pub FileBreaks : {R : Type 0} → Bool → (R → Memory) → BreaksAt (FileReader R)
-FileBreaks known memory a e = IsTrue known → ReadsWhole memory a → LacksPart (files.file_of a) (bytes_of memory a) e
+abbrev pub NextOfFileCause : {R : Type 0} → Device R → BreaksAt (FileReader R)
+NextOfFileCause d a e = IsTrue d.is_memory → ReadsWhole d a → FilePartCause (files.file_of a) (bytes_of d a) e

@@ -1,15 +1,12 @@
 //! Appends the chunks of a stream to a file.
-ghost use Rattle.std.specs.Prelude.{◌≡◌, ◌⊎◌, IfErr, IfOk, IsTrue};
+ghost use Rattle.std.specs.Prelude.{◌≡◌, IfErr};
 ghost use Rattle.lower.specs.TypeViews.{schema_view};
 ghost use Rattle.ipc_base.specs.IdTrees.{all_ids_view};
 ghost use Rattle.ipc_devices.specs.Faults.{Answers, OnIo, OwnFault};
 ghost use Rattle.ipc_devices.specs.declared.fault.ArgFault.TheVariants.{FieldsDiffer};
 ghost use Rattle.ipc_devices.specs.declared.fault.Fault.TheVariants.{Argument};
-ghost use Rattle.ipc_convert.specs.Chunks.{NoneFailed};
-ghost use Rattle.ipc_convert.specs.Copies.{AppendsTo, AreSame, CopiesStream, TakesStream};
-ghost use Rattle.ipc_convert.specs.Failures.{OutputFails};
-ghost use Rattle.ipc_file_write.specs.Appends.{DeviceFails};
-ghost use Rattle.ipc_convert.specs.Refusals.{GoesOnWithNone, RefusesAppended};
+ghost use Rattle.ipc_convert.specs.Api.{AppendsStream};
+ghost use Rattle.ipc_convert.specs.Copies.{AreSame};
 
 use crate::chunks::copy_chunks;
 use crate::files::finish_file;
@@ -55,15 +52,7 @@ pub fn append_stream<F: Reads + Writes + Seeks + Drop, R: Reads + Drop>(
     file: F,
     input: R,
 ) -> Result<(F, R), Fault>
-    ensures takes { IfOk result (λ devices. TakesStream R.gives input devices.1) }
-    ensures done { IfOk result (λ devices.
-        NoneFailed F.failures R.failures file input devices.0 devices.1) }
-    ensures failed { OnIo result (DeviceFails R.failures input
-        ⊎ OutputFails F.grows F.failures F.room file) }
-    ensures appends { IsTrue F.known → (F.memory file).place ≡ 0 → IfOk result (λ devices. CopiesStream R.gives input devices.1
-        (λ schema chunks _. AppendsTo (F.memory file).whole (F.memory devices.0).whole schema chunks)) }
-    ensures refused { IsTrue F.known → (F.memory file).place ≡ 0 → IfErr result (λ e. OwnFault e
-        (GoesOnWithNone F.known (F.memory file).whole e ⊎ RefusesAppended F.known F.memory file R.gives R.known R.memory input e)) }
+    ensures { AppendsStream R.gives F.device R.device file input result }
 {
     let mut file = file;
     let metadata = read_file_metadata(alloc, &mut file)?;

@@ -110,13 +110,15 @@ pub trait Sink {
 ///
 /// After an error other than `Io` the chunks that were written are the first that came.
 pub fn copy_chunks<S: Source, T: Sink>(source: &mut S, sink: &mut T) -> Result<Ending, Fault>
-    ensures copied { IfOk result (λ ending. Copied S.came S.stopped T.took source.old sink.old ending source.new sink.new) }
+    ensures copied { IfOk result (λ ending. Copied S.came S.stopped T.took
+        source.old sink.old ending source.new sink.new) }
     ensures done { OnOk result
         (NoneFailed S.failures T.failures source.old sink.old source.new sink.new) }
     ensures failed { OnIo result
         (CopyFails S.failures T.failures T.fails source.old sink.old source.new sink.new) }
     ensures refused { OnRefused result (TookWhatCame S.came T.took source.old sink.old sink.new) }
-    ensures stops { IfErr result (λ e. OwnFault e (StopsCopy S.came S.breaks T.took T.refuses source.old sink.old e)) }
+    ensures stops { IfErr result (λ e. OwnFault e
+        (StopsCopy S.came S.breaks T.took T.refuses source.old sink.old e)) }
 {
     for _ in 0..u64::MAX {
         if let Some(ending) = copy_next(source, sink)? {

@@ -1,14 +1,11 @@
 //! Writes streams and files as files.
-ghost use Rattle.std.specs.Prelude.{◌≡◌, ◌⊎◌, [], IfErr, IfOk, IsTrue, OnOk};
+ghost use Rattle.std.specs.Prelude.{◌≡◌, IfErr, IfOk, OnOk};
 ghost use Rattle.lower.specs.TypeViews.{fields_view, pairs_of};
 ghost use Rattle.ipc_base.specs.IdTrees.{all_ids_view};
 ghost use Rattle.ipc_devices.specs.Faults.{OnIo, OwnFault};
-ghost use Rattle.ipc_convert.specs.Chunks.{NoneFailed};
-ghost use Rattle.ipc_convert.specs.Copies.{CopiesFileOf, CopiesStream, TakesStream, WritesFile};
+ghost use Rattle.ipc_convert.specs.Api.{CopiesFileToFile, CopiesStreamToFile};
 ghost use Rattle.ipc_convert.specs.Failures.{OutputFails, SendFails};
-ghost use Rattle.ipc_convert.specs.Refusals.{CopiesNoFile, CopiesNoStream, HoldsOfGiven, RefusesAsFile};
-ghost use Rattle.ipc_convert.specs.Steps.{BeginsFile, EndsAnyway, EndsCopy, RefusesWithPairs};
-ghost use Rattle.ipc_file_write.specs.Appends.{DeviceFails};
+ghost use Rattle.ipc_convert.specs.Steps.{BeginsFile, EndsAnyway, EndsCopy, WithPairsCause};
 ghost use Rattle.ipc_file_write.specs.FileWriters.{seen};
 ghost use Rattle.ipc_write.specs.Writers.{order_of};
 
@@ -48,15 +45,8 @@ pub fn stream_to_file<R: Reads + Drop, W: Writes + Drop>(
     out: W,
     write_options: WriteOptions,
 ) -> Result<(R, W), Fault>
-    ensures takes { IfOk result (λ devices. TakesStream R.gives input devices.0) }
-    ensures done { IfOk result (λ devices.
-        NoneFailed R.failures W.failures input out devices.0 devices.1) }
-    ensures failed { OnIo result (DeviceFails R.failures input
-        ⊎ OutputFails W.grows W.failures W.room out) }
-    ensures copies { IsTrue W.known → IfOk result (λ devices. CopiesStream R.gives input devices.0
-        (λ schema chunks _. WritesFile (order_of write_options) (W.memory out) (W.memory devices.1) schema [] chunks)) }
-    ensures refused { IfErr result (λ e. OwnFault e (HoldsOfGiven R.gives R.known R.memory input
-        (λ bytes. CopiesNoStream (RefusesAsFile W.known W.memory out (order_of write_options) []) bytes e))) }
+    ensures { CopiesStreamToFile R.gives R.device W.device (order_of write_options)
+        input out result }
 {
     let mut input = input;
     let metadata = read_stream_metadata(alloc, &mut input)?;
@@ -93,14 +83,7 @@ pub fn file_to_file<F: Reads + Seeks + Drop, W: Writes + Drop>(
     out: W,
     write_options: WriteOptions,
 ) -> Result<(F, W), Fault>
-    ensures copies { IsTrue W.known → IfOk result (λ devices. CopiesFileOf F.known F.memory file
-        (WritesFile (order_of write_options) (W.memory out) (W.memory devices.1))) }
-    ensures done { IfOk result (λ devices.
-        NoneFailed F.failures W.failures file out devices.0 devices.1) }
-    ensures failed { OnIo result (DeviceFails F.failures file
-        ⊎ OutputFails W.grows W.failures W.room out) }
-    ensures refused { IsTrue F.known → (F.memory file).place ≡ 0 → IfErr result (λ e. OwnFault e (CopiesNoFile
-        (λ first schema pairs. RefusesAsFile W.known W.memory out (order_of write_options) pairs first schema) (F.memory file).whole e)) }
+    ensures { CopiesFileToFile F.device W.device (order_of write_options) file out result }
 {
     let mut file = file;
     let metadata = read_file_metadata(alloc, &mut file)?;
@@ -124,12 +107,14 @@ fn begin_file<W: Writes + Drop>(
     pairs: Metadata,
     write_options: WriteOptions,
 ) -> Result<FileWriter<W>, Fault>
-    ensures begins { IfOk result (λ w. BeginsFile W.known W.memory out (order_of write_options) (fields_view schema.fields.items)
-        (pairs_of schema.metadata.entries) (all_ids_view ids.items) (pairs_of pairs.entries) (seen w)) }
-    ensures only { IfErr result (λ e. OwnFault e (RefusesWithPairs (fields_view schema.fields.items) (pairs_of schema.metadata.entries)
+    ensures begins { IfOk result (λ w. BeginsFile W.device out (order_of write_options)
+        (fields_view schema.fields.items)
+        (pairs_of schema.metadata.entries) (all_ids_view ids.items) (pairs_of pairs.entries)
+        (seen w)) }
+    ensures only { IfErr result (λ e. OwnFault e (WithPairsCause (fields_view schema.fields.items) (pairs_of schema.metadata.entries)
         (all_ids_view ids.items) (pairs_of pairs.entries) e)) }
-    ensures done { IfOk result (λ w. W.failures (seen w).device ≡ W.failures out) }
-    ensures failed { OnIo result (OutputFails W.grows W.failures W.room out) }
+    ensures done { IfOk result (λ w. W.device.failures (seen w).device ≡ W.device.failures out) }
+    ensures failed { OnIo result (OutputFails W.device out) }
 {
     let mut writer = FileWriter::new(alloc, out, schema, Some(ids), write_options)?;
     writer.set_custom_metadata(pairs)?;
@@ -143,9 +128,10 @@ pub(crate) fn finish_file<W: Writes + Drop>(
     copied: Result<Ending, Fault>,
     writer: &mut FileWriter<W>,
 ) -> Result<Ending, Fault>
-    ensures ends { IfOk result (λ ending. EndsCopy W.known W.grows W.failures W.room W.memory copied ending (seen writer.old) (seen writer.new)) }
-    ensures anyway { EndsAnyway W.known W.memory copied result (seen writer.old) (seen writer.new) }
-    ensures failed { OnIo result (OnOk copied (SendFails W.grows W.failures W.room
+    ensures ends { IfOk result
+        (λ ending. EndsCopy W.device copied ending (seen writer.old) (seen writer.new)) }
+    ensures anyway { EndsAnyway W.device copied result (seen writer.old) (seen writer.new) }
+    ensures failed { OnIo result (OnOk copied (SendFails W.device
         (seen writer.old).device (seen writer.new).device)) }
 {
     let finished = writer.finish();

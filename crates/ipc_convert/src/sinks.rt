@@ -3,7 +3,7 @@ ghost use Rattle.ipc_convert.specs.SinkLaws.{file_took_in_order, file_took_nothi
 ghost use Rattle.ipc_write.specs.Writers.{seen};
 ghost use Rattle.ipc_file_write.specs.FileWriters as files;
 ghost use Rattle.ipc_convert.specs.Failures.{SendFails};
-ghost use Rattle.ipc_convert.specs.Sinks.{FileRefuses, FileTook, StreamRefuses, StreamTook};
+ghost use Rattle.ipc_convert.specs.Sinks.{FileWriterCause, FileTook, StreamTakeCause, StreamTook};
 
 use crate::chunks::Sink;
 use ipc_base::chunk::Chunk;
@@ -14,17 +14,17 @@ use ipc_write::stream::StreamWriter;
 use lower_arrays::array::AnyArray;
 
 impl<W: Writes + Drop> Sink for StreamWriter<W> {
-    ghost took = { StreamTook W.known W.memory };
+    ghost took = { StreamTook W.device };
 
-    ghost refuses = { StreamRefuses };
+    ghost refuses = { StreamTakeCause };
 
-    ghost failures = { λ w. W.failures (seen w).device };
+    ghost failures = { λ w. W.device.failures (seen w).device };
 
-    ghost fails = { λ v w. SendFails W.grows W.failures W.room (seen v).device (seen w).device };
+    ghost fails = { λ v w. SendFails W.device (seen v).device (seen w).device };
 
-    ghost took_nothing = { stream_took_nothing W.known W.memory };
+    ghost took_nothing = { stream_took_nothing W.device };
 
-    ghost took_in_order = { stream_took_in_order W.known W.memory };
+    ghost took_in_order = { stream_took_in_order W.device };
 
     fn take_chunk(&mut self, chunk: &Chunk<AnyArray>) -> Result<(), Fault> {
         self.write(chunk, None)
@@ -32,18 +32,17 @@ impl<W: Writes + Drop> Sink for StreamWriter<W> {
 }
 
 impl<W: Writes + Drop> Sink for FileWriter<W> {
-    ghost took = { FileTook W.known W.memory };
+    ghost took = { FileTook W.device };
 
-    ghost refuses = { FileRefuses };
+    ghost refuses = { FileWriterCause };
 
-    ghost failures = { λ w. W.failures (files.seen w).device };
+    ghost failures = { λ w. W.device.failures (files.seen w).device };
 
-    ghost fails = { λ v w.
-        SendFails W.grows W.failures W.room (files.seen v).device (files.seen w).device };
+    ghost fails = { λ v w. SendFails W.device (files.seen v).device (files.seen w).device };
 
-    ghost took_nothing = { file_took_nothing W.known W.memory };
+    ghost took_nothing = { file_took_nothing W.device };
 
-    ghost took_in_order = { file_took_in_order W.known W.memory };
+    ghost took_in_order = { file_took_in_order W.device };
 
     fn take_chunk(&mut self, chunk: &Chunk<AnyArray>) -> Result<(), Fault> {
         self.write(chunk, None)

@@ -2,7 +2,7 @@
 ghost use Rattle.ipc_readers.specs.Streams.{device_of};
 ghost use Rattle.ipc_file_readers.specs.Readers as files;
 ghost use Rattle.ipc_convert.specs.SourceLaws.{file_came_in_order, file_came_nothing, stream_came_in_order, stream_came_nothing};
-ghost use Rattle.ipc_convert.specs.Sources.{FileBreaks, FileCame, FileStopped, StreamBreaks, StreamCame, StreamStopped};
+ghost use Rattle.ipc_convert.specs.Sources.{NextOfFileCause, FileCame, FileStopped, NextOfStreamCause, StreamCame, StreamStopped};
 
 use crate::chunks::{Ending, Next, Source};
 use ipc_devices::fault::Fault;
@@ -15,13 +15,13 @@ impl<R: Reads + Drop> Source for StreamReader<R> {
 
     ghost stopped = { StreamStopped R.gives };
 
-    ghost breaks = { StreamBreaks R.gives };
+    ghost breaks = { NextOfStreamCause R.gives };
 
-    ghost failures = { λ r. R.failures (device_of r) };
+    ghost failures = { λ r. R.device.failures (device_of r) };
 
-    ghost came_nothing = { stream_came_nothing R.gives R.gives_nothing };
+    ghost came_nothing = { stream_came_nothing R.gives R.laws.nothing };
 
-    ghost came_in_order = { stream_came_in_order R.gives R.gives_in_order };
+    ghost came_in_order = { stream_came_in_order R.gives R.laws.in_order };
 
     fn next_chunk(&mut self) -> Result<Next, Fault> {
         match self.next() {
@@ -34,17 +34,17 @@ impl<R: Reads + Drop> Source for StreamReader<R> {
 }
 
 impl<F: Reads + Seeks + Drop> Source for FileReader<F> {
-    ghost came = { FileCame F.known F.memory };
+    ghost came = { FileCame F.device };
 
     ghost stopped = { FileStopped };
 
-    ghost breaks = { FileBreaks F.known F.memory };
+    ghost breaks = { NextOfFileCause F.device };
 
-    ghost failures = { λ r. F.failures (files.device_of r) };
+    ghost failures = { λ r. F.device.failures (files.device_of r) };
 
-    ghost came_nothing = { file_came_nothing F.known F.memory };
+    ghost came_nothing = { file_came_nothing F.device };
 
-    ghost came_in_order = { file_came_in_order F.known F.memory };
+    ghost came_in_order = { file_came_in_order F.device };
 
     fn next_chunk(&mut self) -> Result<Next, Fault> {
         match self.next() {

@@ -1,12 +1,8 @@
 //! Writes streams and files as streams.
-ghost use Rattle.std.specs.Prelude.{◌≡◌, ◌⊎◌, IfErr, IfOk, IsTrue, OnOk};
-ghost use Rattle.ipc_devices.specs.Faults.{OnIo, OwnFault};
-ghost use Rattle.ipc_file_write.specs.Appends.{DeviceFails};
-ghost use Rattle.ipc_model.specs.Streams.{marked};
-ghost use Rattle.ipc_convert.specs.Chunks.{NoneFailed};
-ghost use Rattle.ipc_convert.specs.Copies.{CopiesFileOf, CopiesStream, TakesStream, WritesStream};
-ghost use Rattle.ipc_convert.specs.Failures.{OutputFails, SendFails};
-ghost use Rattle.ipc_convert.specs.Refusals.{CopiesNoFile, CopiesNoStream, HoldsOfGiven, RefusesAsStream};
+ghost use Rattle.std.specs.Prelude.{◌≡◌, IfErr, OnOk};
+ghost use Rattle.ipc_devices.specs.Faults.{OnIo};
+ghost use Rattle.ipc_convert.specs.Api.{CopiesFileToStream, CopiesStreamToStream};
+ghost use Rattle.ipc_convert.specs.Failures.{SendFails};
 ghost use Rattle.ipc_convert.specs.Steps.{EndsAsSource};
 ghost use Rattle.ipc_write.specs.Writers.{RefusesFinish, order_of, seen};
 
@@ -42,15 +38,8 @@ pub fn stream_to_stream<R: Reads + Drop, W: Writes + Drop>(
     out: W,
     write_options: WriteOptions,
 ) -> Result<(R, W), Fault>
-    ensures takes { IfOk result (λ devices. TakesStream R.gives input devices.0) }
-    ensures done { IfOk result (λ devices.
-        NoneFailed R.failures W.failures input out devices.0 devices.1) }
-    ensures failed { OnIo result (DeviceFails R.failures input
-        ⊎ OutputFails W.grows W.failures W.room out) }
-    ensures copies { IsTrue W.known → IfOk result (λ devices. CopiesStream R.gives input devices.0
-        (WritesStream (order_of write_options) (W.memory out) (W.memory devices.1))) }
-    ensures refused { IfErr result (λ e. OwnFault e (HoldsOfGiven R.gives R.known R.memory input
-        (λ bytes. CopiesNoStream RefusesAsStream bytes e))) }
+    ensures { CopiesStreamToStream R.gives R.device W.device (order_of write_options)
+        input out result }
 {
     let mut input = input;
     let metadata = read_stream_metadata(alloc, &mut input)?;
@@ -85,15 +74,7 @@ pub fn file_to_stream<F: Reads + Seeks + Drop, W: Writes + Drop>(
     out: W,
     write_options: WriteOptions,
 ) -> Result<(F, W), Fault>
-    ensures copies { IsTrue W.known → IfOk result (λ devices. CopiesFileOf F.known F.memory file
-        (λ schema _ chunks. WritesStream (order_of write_options) (W.memory out)
-        (W.memory devices.1) schema chunks marked)) }
-    ensures done { IfOk result (λ devices.
-        NoneFailed F.failures W.failures file out devices.0 devices.1) }
-    ensures failed { OnIo result (DeviceFails F.failures file
-        ⊎ OutputFails W.grows W.failures W.room out) }
-    ensures refused { IsTrue F.known → (F.memory file).place ≡ 0 → IfErr result (λ e. OwnFault e (CopiesNoFile
-        (λ first schema _ fault. RefusesAsStream first schema fault) (F.memory file).whole e)) }
+    ensures { CopiesFileToStream F.device W.device (order_of write_options) file out result }
 {
     let mut file = file;
     let metadata = read_file_metadata(alloc, &mut file)?;
@@ -109,10 +90,11 @@ pub fn file_to_stream<F: Reads + Seeks + Drop, W: Writes + Drop>(
 
 // Writes the end mark of a stream if its source is over.
 fn end_stream<W: Writes + Drop>(ending: Ending, writer: &mut StreamWriter<W>) -> Result<(), Fault>
-    ensures ends { OnOk result (EndsAsSource W.known W.memory ending (seen writer.old) (seen writer.new)) }
+    ensures ends { OnOk result (EndsAsSource W.device ending (seen writer.old) (seen writer.new)) }
     ensures done { OnOk result
-        (W.failures (seen writer.new).device ≡ W.failures (seen writer.old).device) }
-    ensures failed { OnIo result (SendFails W.grows W.failures W.room
+        (W.device.failures (seen writer.new).device
+        ≡ W.device.failures (seen writer.old).device) }
+    ensures failed { OnIo result (SendFails W.device
         (seen writer.old).device (seen writer.new).device) }
     ensures only { IfErr result (RefusesFinish (seen writer.old).state) }
 {

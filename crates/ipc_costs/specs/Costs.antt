@@ -35,6 +35,7 @@ vector_cost cost (Some v) = tables_cost cost v 0 v.count
 -- ---- pairs
 
 -- A key is one of an extension.
+
 abbrev pub is_extension : Option (List ℕ) → Bool
 is_extension None = false
 is_extension (Some key) = is_extension_key key
@@ -87,6 +88,7 @@ field_cost (suc n) t = own_cost t + typed_cost (λ s. field_cost n s) t (present
 -- ---- schemas
 
 -- The cost of a schema's table: its pairs and its fields.
+
 abbrev pub schema_table_cost : Spot → ℕ
 schema_table_cost t =
     vector_cost pair_cost (present (schema_custom_metadata t))

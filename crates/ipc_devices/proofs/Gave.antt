@@ -1,6 +1,6 @@
 -- Runs of reads, one after another, and of memory.
-use Rattle.std.proofs.Common.{◌≡◌, ℕ, ◌+◌, List, [], ◌++◌, refl, sym, ◌∙◌, subst, IsTrue, Bool, append_assoc, append-nil}
-use Rattle.ipc_devices.specs.Device.{Memory, after}
+use Rattle.std.proofs.Common.{ℕ, List, [], ◌++◌, refl, sym, ◌∙◌, subst, IsTrue, append_assoc, append-nil}
+use Rattle.ipc_devices.specs.Device.{Device, after}
 use Rattle.ipc_devices.specs.Gives.{Stop, going, ended, failed, Gives, GivesInOrder, GivesAhead, GivesNothing, Follows, Gave, GaveTo}
 
 -- One run after another: what is left of the first is ahead of the second.
@@ -17,14 +17,14 @@ gave_then gives law V W X P Q T a b e c bound joined p q = record {
 }
 
 -- Of memory: the bytes that were ahead, and those that are left.
-pub gave_ahead : {S : Type 0} (gives : Gives S) (known : Bool) (memory : S → Memory) → GivesAhead known gives memory → IsTrue known
-    → (W : List ℕ → Type 0) (P : List ℕ → List ℕ → Type 0) (a b : S) → Gave gives W P a going b → P (after (memory a)) (after (memory b))
-gave_ahead gives known memory law k W P a b g =
-    subst (λ (l : List ℕ). P l (after (memory b))) (sym (law a g.bytes going b k g.gave)) (g.holds (after (memory b)) tt)
+pub gave_ahead : {S : Type 0} (gives : Gives S) (d : Device S) → GivesAhead d gives → IsTrue d.is_memory
+    → (W : List ℕ → Type 0) (P : List ℕ → List ℕ → Type 0) (a b : S) → Gave gives W P a going b → P (after (d.memory a)) (after (d.memory b))
+gave_ahead gives d law k W P a b g =
+    subst (λ (l : List ℕ). P l (after (d.memory b))) (sym (law a g.bytes going b k g.gave)) (g.holds (after (d.memory b)) tt)
 
-pub gave_to_end : {S : Type 0} (gives : Gives S) (known : Bool) (memory : S → Memory) → GivesAhead known gives memory → IsTrue known
-    → (W : List ℕ → Type 0) (P : List ℕ → List ℕ → Type 0) (a b : S) → Gave gives W P a ended b → P (after (memory a)) []
-gave_to_end gives known memory law k W P a b g =
+pub gave_to_end : {S : Type 0} (gives : Gives S) (d : Device S) → GivesAhead d gives → IsTrue d.is_memory
+    → (W : List ℕ → Type 0) (P : List ℕ → List ℕ → Type 0) (a b : S) → Gave gives W P a ended b → P (after (d.memory a)) []
+gave_to_end gives d law k W P a b g =
     subst (λ (l : List ℕ). P l []) (append-nil g.bytes ∙ sym (law a g.bytes ended b k g.gave)) (g.holds [] refl)
 
 -- The same bytes, for what follows from what is known of them.
@@ -46,14 +46,14 @@ gave_nothing gives law W P a w p = record { bytes = []; gave = law a; within = w
 
 -- Of memory, however the device stopped: nothing is claimed of what is left
 -- at an end, or after a failure.
-module _ {S : Type 0} (gives : Gives S) (known : Bool) (memory : S → Memory) (law : GivesAhead known gives memory) (k : IsTrue known)
+module _ {S : Type 0} (gives : Gives S) (d : Device S) (law : GivesAhead d gives) (k : IsTrue d.is_memory)
     (W : List ℕ → Type 0) (P : List ℕ → List ℕ → Type 0) where
   by_stop : (Q : Stop → Type 0) (a b : S) → ((xs ys : List ℕ) → Q ended → P xs [] → P xs ys) → ((xs ys : List ℕ) → Q failed → P xs ys)
-      → (s : Stop) → Q s → Gave gives W P a s b → P (after (memory a)) (after (memory b))
-  by_stop Q a b at_end at_failure going q g = gave_ahead gives known memory law k W P a b g
-  by_stop Q a b at_end at_failure ended q g = at_end (after (memory a)) (after (memory b)) q (gave_to_end gives known memory law k W P a b g)
-  by_stop Q a b at_end at_failure failed q g = at_failure (after (memory a)) (after (memory b)) q
+      → (s : Stop) → Q s → Gave gives W P a s b → P (after (d.memory a)) (after (d.memory b))
+  by_stop Q a b at_end at_failure going q g = gave_ahead gives d law k W P a b g
+  by_stop Q a b at_end at_failure ended q g = at_end (after (d.memory a)) (after (d.memory b)) q (gave_to_end gives d law k W P a b g)
+  by_stop Q a b at_end at_failure failed q g = at_failure (after (d.memory a)) (after (d.memory b)) q
 
   pub to_memory : (Q : Stop → Type 0) (a b : S) → ((xs ys : List ℕ) → Q ended → P xs [] → P xs ys) → ((xs ys : List ℕ) → Q failed → P xs ys)
-      → GaveTo gives Q W P a b → P (after (memory a)) (after (memory b))
+      → GaveTo gives Q W P a b → P (after (d.memory a)) (after (d.memory b))
   to_memory Q a b at_end at_failure g = by_stop Q a b at_end at_failure g.stop g.stops g.run

@@ -1,5 +1,5 @@
 -- What the reads of memory give.
-use Rattle.std.proofs.Common.{◌≡◌, ◌⊎◌, ℕ, ◌+◌, ◌<◌, ◌≤◌, List, [], ◌++◌, length, take, drop, min, refl, sym, ◌∙◌, arith, add-zero, inl, inr, length-take, take-append-drop}
+use Rattle.std.proofs.Common.{◌≡◌, ◌⊎◌, ℕ, ◌+◌, ◌<◌, ◌≤◌, List, [], ◌++◌, length, take, drop, min, refl, sym, arith, add-zero, inl, inr, length-take, take-append-drop}
 use Rattle.std.proofs.lemmas.List.{nil_from_length, take_at, drop-drop, length-take-le}
 use Rattle.std.proofs.lemmas.Bool.{cases_lt}
 use Rattle.ipc_devices.specs.Device.{most}

@@ -1,5 +1,5 @@
 -- How an error leaves the device.
-use Rattle.std.proofs.Common.{◌≡◌, ℕ, ◌≤◌, Result, Ok, Err, refl, subst, arith}
+use Rattle.std.proofs.Common.{ℕ, ◌≤◌, Result, Ok, Err, refl, subst, arith}
 use Rattle.ipc_devices.specs.Device.{Rises}
 use Rattle.ipc_devices.specs.Faults.{OnIo, OwnFault}
 use Rattle.ipc_devices.specs.declared.fault.Fault.{Fault}

@@ -1,5 +1,6 @@
 -- What a result says of the input, of allocation and of devices.
 use Rattle.std.specs.Prelude.{Result, Ok, Err}
+use Rattle.std.specs.declared.io.Error.{Error}
 use Rattle.ipc_devices.specs.declared.fault.Fault.{Fault}
 use Rattle.ipc_devices.specs.declared.fault.Fault.TheVariants.{Io, Memory}
 
@@ -8,6 +9,11 @@ abbrev pub OnIo : {X : Type 0} → Result X Fault → Type 0 → Type 0
 OnIo (Ok x) P = Unit {0}
 OnIo (Err (Io e)) P = P
 OnIo (Err _) P = Unit {0}
+
+-- an error of a device is returned: P holds of it
+abbrev pub IfIo : {X : Type 0} → Result X Fault → (Error → Type 0) → Type 0
+IfIo (Err (Io e)) P = P e
+IfIo _ P = Unit {0}
 
 -- Unless the result is a device's error, P holds.
 abbrev pub UnlessIo : {X : Type 0} → Result X Fault → Type 0 → Type 0

@@ -1,6 +1,7 @@
 -- Which bytes the reads of a device gave, from one of its states to another.
-use Rattle.std.specs.Prelude.{◌≡◌, ◌⊎◌, ℕ, ◌+◌, ◌<◌, ◌≤◌, min, Bool, IsTrue, List, [], ◌++◌, length, take, Result, Ok, Err}
-use Rattle.ipc_devices.specs.Device.{Memory, Rises, after, most}
+use Rattle.std.specs.Prelude.{◌≡◌, ◌⊎◌, ℕ, ◌+◌, ◌<◌, ◌≤◌, min, IsTrue, List, [], ◌++◌, length, take, Result, Ok, Err}
+use Rattle.std.specs.Borrow.{MutBor}
+use Rattle.ipc_devices.specs.Device.{Device, Memory, Rises, after, most}
 use Rattle.ipc_devices.specs.declared.fault.Fault.{Fault}
 use Rattle.ipc_devices.specs.declared.fault.Fault.TheVariants.{Ended, Io}
 
@@ -19,6 +20,7 @@ Gives S = S → List ℕ → Stop → S → Type 0
 -- ---- theorems
 
 -- No call gives nothing.
+
 abbrev pub GivesNothing : {S : Type 0} → Gives S → Type 0
 GivesNothing {S} gives = (a : S) → gives a [] going a
 
@@ -55,18 +57,32 @@ Takes ended xs ahead left = ahead ≡ xs
 Takes failed xs ahead left = take (length xs) ahead ≡ xs
 
 -- If the device is memory, the bytes given were ahead of its offset.
-abbrev pub GivesAhead : {S : Type 0} → Bool → Gives S → (S → Memory) → Type 0
-GivesAhead {S} known gives memory = (a : S) (xs : List ℕ) (e : Stop) (b : S) → IsTrue known → gives a xs e b
-    → Takes e xs (after (memory a)) (after (memory b))
+abbrev pub GivesAhead : {S : Type 0} → Device S → Gives S → Type 0
+GivesAhead {S} d gives = (a : S) (xs : List ℕ) (e : Stop) (b : S) → IsTrue d.is_memory → gives a xs e b
+    → Takes e xs (after (d.memory a)) (after (d.memory b))
 
 -- The bytes are the same, and the offset advanced by n.
 abbrev pub MovesPlace : (m : Memory) (n : ℕ) (m' : Memory) → Type 0
 MovesPlace m n m' = (m'.whole ≡ m.whole) × (m'.place ≡ m.place + n)
 
 -- If reading doesn't change the bytes, they stay, and the offset advances by what was given.
-abbrev pub GivesStill : {S : Type 0} → Bool → Gives S → (S → Memory) → Type 0
-GivesStill {S} still gives memory = (a : S) (xs : List ℕ) (e : Stop) (b : S) → IsTrue still → gives a xs e b
-    → MovesPlace (memory a) (length xs) (memory b)
+abbrev pub GivesStill : {S : Type 0} → Device S → Gives S → Type 0
+GivesStill {S} d gives = (a : S) (xs : List ℕ) (e : Stop) (b : S) → IsTrue d.is_read_only → gives a xs e b
+    → MovesPlace (d.memory a) (length xs) (d.memory b)
+
+-- The device is reached through the same references.
+abbrev pub GivesNames : {S : Type 0} → Gives S → (S → List ℕ) → Type 0
+GivesNames {S} gives names = (a : S) (xs : List ℕ) (e : Stop) (b : S) → gives a xs e b → names b ≡ names a
+
+-- the laws of what the reads of a device give
+pub record GivesLaws {S : Type 0} (d : Device S) (gives : Gives S) : Type 0 where
+  pub nothing : GivesNothing gives
+  pub in_order : GivesInOrder gives
+  pub counted : GivesCounted gives d.given
+  pub fails : GivesFails gives d.failures
+  pub ahead : GivesAhead d gives
+  pub still : GivesStill d gives
+  pub names : GivesNames gives d.names
 
 -- ---- one call
 
@@ -96,6 +112,16 @@ pub record MemoryGives (m : Memory) (given : ℕ) (xs : List ℕ) (e : Stop) (m'
 pub record CountsGive (failures given : ℕ) (xs : List ℕ) (e : Stop) (failures' given' : ℕ) : Type 0 where
   pub counts : Counts given (length xs) given'
   pub fails : Fails e failures failures'
+
+abbrev pub memory_gives : {S : Type 0} → (S → Memory) → (S → ℕ) → Gives S
+memory_gives memory given a xs e b = MemoryGives (memory a) (given a) xs e (memory b) (given b)
+
+abbrev pub counts_give : {S : Type 0} → (failures given : S → ℕ) → Gives S
+counts_give failures given a xs e b = CountsGive (failures a) (given a) xs e (failures b) (given b)
+
+-- the reads of a device behind a reference, which stays the same
+abbrev pub gives_behind : {S : Type 0} → Gives S → Gives (MutBor S)
+gives_behind gives a xs e b = gives a.now xs e b.now × (b.ghost_name ≡ a.ghost_name)
 
 -- ---- runs of reads
 
@@ -148,6 +174,7 @@ pub record Gave {S : Type 0} (gives : Gives S) (W : List ℕ → Type 0) (P : Li
 -- ---- how reading stopped, by the result
 
 -- The device didn't fail.
+
 abbrev pub HasNotFailed : Stop → Type 0
 HasNotFailed failed = ⊥
 HasNotFailed _ = Unit {0}

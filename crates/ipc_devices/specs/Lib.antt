@@ -1,4 +1,5 @@
 pub mod Device
+pub mod Acts
 pub mod Faults
 pub mod Gives
 pub mod GivesLaws

@@ -2,10 +2,11 @@
 //!
 //! Those of the standard library don't. A call of these returns an error only if the device counted
 //! a failure in it, or if memory that is written to couldn't grow. No failed call is retried.
-ghost use Rattle.std.specs.Prelude.{◌≡◌, ℕ, ◌+◌, ◌<◌, ◌≤◌, ◌↔◌, Bool, List, [], length, take, IsTrue, IsSome, ◌⊎◌, IfOk, IfSome, OnOk, OnErr, MatchResult, MatchOption};
+ghost use Rattle.std.specs.Prelude.{◌≡◌, ℕ, ◌+◌, ◌<◌, ◌≤◌, ◌↔◌, false, List, [], length, take, IsTrue, IsSome, ◌⊎◌, IfOk, IfErr, IfSome, OnOk, OnErr, MatchResult, MatchOption};
 ghost use Rattle.std.specs.Io.{ReadsAtMost, WritesAtMost};
-ghost use Rattle.ipc_devices.specs.Device.{Rises, counted, Memory, ReadsFront, WritesOver, GoesTo};
-ghost use Rattle.ipc_devices.specs.Gives.{Stop, going, failed, ReadGives, SkipGives, GivesNothing, GivesInOrder, GivesCounted, GivesFails, GivesAhead, GivesStill};
+ghost use Rattle.ipc_devices.specs.Device.{Device, Rises, counted, ReadsFront, WritesOver, GoesTo, behind};
+ghost use Rattle.ipc_devices.specs.Gives.{Stop, going, failed, ReadGives, SkipGives, GivesLaws, gives_behind};
+ghost use Rattle.ipc_devices.specs.GivesLaws.{laws_behind};
 ghost use Rattle.std.specs.Io.BufRead.{Rests};
 ghost use types.Logic.{sem};
 
@@ -13,26 +14,14 @@ use std::io;
 
 /// A device that counts the calls that failed.
 pub trait Failures {
-    // Whether the device is memory, whose bytes and position are known.
-    ghost known: { Bool };
-
-    // Whether reads and seeks never change the bytes, not even if they fail or return nothing.
-    ghost still: { Bool };
-
-    // The bytes and the position, if the device is memory.
-    ghost memory: { Self → Memory };
-
-    // The number of calls that failed.
-    ghost failures: { Self → ℕ };
-
-    // The number of bytes that reads returned.
-    ghost given: { Self → ℕ };
+    // What is known of such devices, and of each of their states.
+    ghost device: { Device Self };
 
     /// Returns the number of calls that failed.
     ///
     /// The count stops at `u64::MAX`; a failure leaves it unchanged then.
     fn failures(&self) -> u64
-        ensures { result ≡ Self.failures self.now };
+        ensures { result ≡ Self.device.failures self.now };
 }
 
 /// A device that is read.
@@ -45,7 +34,7 @@ pub trait Reads: Failures {
 
     /// Returns the number of bytes that reads returned. The count stops at `u64::MAX`.
     fn given(&self) -> u64
-        ensures { result ≡ Self.given self.now };
+        ensures { result ≡ Self.device.given self.now };
 
     /// Reads bytes into the front of `buf`, and returns their number.
     ///
@@ -57,15 +46,18 @@ pub trait Reads: Failures {
         ensures gives { MatchResult result
             (λ n. ReadGives gives self.old n buf.new self.new)
             (λ _. gives self.old [] failed self.new) }
-        ensures monotone { Self.failures self.old ≤ Self.failures self.new }
-        ensures failed { OnErr result (Rises (Self.failures self.old) (Self.failures self.new)) }
+        ensures monotone { Self.device.failures self.old ≤ Self.device.failures self.new }
+        ensures failed { OnErr result
+            (Rises (Self.device.failures self.old) (Self.device.failures self.new)) }
         ensures given { MatchResult result
-            (λ n. Self.given self.new ≡ counted (Self.given self.old) n)
-            (λ _. Self.given self.new ≡ Self.given self.old) }
-        ensures memory { IsTrue Self.known → IfOk result (λ n.
-            ReadsFront (Self.memory self.old) (Self.memory self.new) n buf.new) }
-        ensures whole { IsTrue Self.still
-            → (Self.memory self.new).whole ≡ (Self.memory self.old).whole };
+            (λ n. Self.device.given self.new ≡ counted (Self.device.given self.old) n)
+            (λ _. Self.device.given self.new ≡ Self.device.given self.old) }
+        ensures memory { IsTrue Self.device.is_memory → IfOk result (λ n.
+            ReadsFront (Self.device.memory self.old) (Self.device.memory self.new) n buf.new) }
+        ensures whole { IsTrue Self.device.is_read_only
+            → (Self.device.memory self.new).whole ≡ (Self.device.memory self.old).whole }
+        ensures names { Self.device.names self.new ≡ Self.device.names self.old }
+        ensures answered { IfErr result (λ e. Self.device.answered self.new e) };
 
     /// Lends the next `count` bytes without a copy, and moves after them.
     ///
@@ -99,27 +91,11 @@ pub trait Reads: Failures {
 
     // Theorems: without calls nothing is read; the bytes of two runs of reads are concatenated; the
     // counts and the memory follow.
-    ghost gives_nothing: { GivesNothing gives };
-
-    ghost gives_in_order: { GivesInOrder gives };
-
-    ghost gives_counted: { GivesCounted gives Self.given };
-
-    ghost gives_fails: { GivesFails gives Self.failures };
-
-    ghost gives_ahead: { GivesAhead Self.known gives Self.memory };
-
-    ghost gives_still: { GivesStill Self.still gives Self.memory };
+    ghost laws: { GivesLaws Self.device gives };
 }
 
 /// A device that is written.
 pub trait Writes: Failures {
-    // Whether a write may have to grow memory, which can fail.
-    ghost grows: { Bool };
-
-    // The number of bytes that can be written before the device must grow.
-    ghost room: { Self → ℕ };
-
     /// Whether a write may have to grow memory, which can fail.
     ///
     /// It is true only for devices that write to memory.
@@ -135,26 +111,41 @@ pub trait Writes: Failures {
     fn write(&mut self, buf: &[u8]) -> io::Result<usize>
         ensures bound { WritesAtMost result buf.now }
         ensures some { IfOk result (λ n. 0 < length buf.now → 0 < n) }
-        ensures monotone { Self.failures self.old ≤ Self.failures self.new }
-        ensures failed { OnErr result (Rises (Self.failures self.old) (Self.failures self.new)
-            ⊎ (IsTrue grows × (room self.old < length buf.now))) }
-        ensures done { OnOk result (Self.failures self.new ≡ Self.failures self.old) }
-        ensures memory { IsTrue Self.known → IfOk result (λ n.
-            WritesOver (Self.memory self.old) (Self.memory self.new) (take n buf.now)) }
-        ensures nothing { IsTrue Self.known → IfOk result (λ n.
-            n ≡ 0 → Self.memory self.new ≡ Self.memory self.old) }
-        ensures room { IfOk result (λ n. Self.room self.old ≤ Self.room self.new + n) }
-        ensures refused { IsTrue Self.known
-            → OnErr result (Self.memory self.new ≡ Self.memory self.old) };
+        ensures monotone { Self.device.failures self.old ≤ Self.device.failures self.new }
+        ensures failed { OnErr result
+            (Rises (Self.device.failures self.old) (Self.device.failures self.new)
+            ⊎ (IsTrue Self.device.grows × (Self.device.room self.old < length buf.now))) }
+        ensures done { OnOk result
+            (Self.device.failures self.new ≡ Self.device.failures self.old) }
+        ensures memory { IsTrue Self.device.is_memory → IfOk result (λ n.
+            WritesOver (Self.device.memory self.old) (Self.device.memory self.new)
+            (take n buf.now)) }
+        ensures nothing { IsTrue Self.device.is_memory → IfOk result (λ n.
+            n ≡ 0 → Self.device.memory self.new ≡ Self.device.memory self.old) }
+        ensures room { IfOk result
+            (λ n. Self.device.room self.old ≤ Self.device.room self.new + n) }
+        ensures refused { IsTrue Self.device.is_memory
+            → OnErr result (Self.device.memory self.new ≡ Self.device.memory self.old) }
+        ensures names { Self.device.names self.new ≡ Self.device.names self.old }
+        ensures answered { IfErr result (λ e. Self.device.answered self.new e) }
+        ensures kept { IsTrue Self.device.keeps_back
+            → IfOk result (λ n. 0 < n → Self.device.is_flushed self.new ≡ false) };
 
     /// Passes on what was written to where it goes.
     ///
-    /// An error is the device's, which counts it as a failure.
+    /// If it is Ok, the device keeps nothing back. An error is the device's, which counts it as a
+    /// failure.
     fn flush(&mut self) -> io::Result<()>
-        ensures monotone { Self.failures self.old ≤ Self.failures self.new }
-        ensures failed { OnErr result (Rises (Self.failures self.old) (Self.failures self.new)) }
-        ensures done { OnOk result (Self.failures self.new ≡ Self.failures self.old) }
-        ensures memory { IsTrue Self.known → Self.memory self.new ≡ Self.memory self.old };
+        ensures monotone { Self.device.failures self.old ≤ Self.device.failures self.new }
+        ensures failed { OnErr result
+            (Rises (Self.device.failures self.old) (Self.device.failures self.new)) }
+        ensures done { OnOk result
+            (Self.device.failures self.new ≡ Self.device.failures self.old) }
+        ensures memory { IsTrue Self.device.is_memory
+            → Self.device.memory self.new ≡ Self.device.memory self.old }
+        ensures names { Self.device.names self.new ≡ Self.device.names self.old }
+        ensures answered { IfErr result (λ e. Self.device.answered self.new e) }
+        ensures flushed { OnOk result (IsTrue (Self.device.is_flushed self.new)) };
 }
 
 /// A device with a position, where the next call reads or writes.
@@ -164,52 +155,58 @@ pub trait Writes: Failures {
 pub trait Seeks: Failures {
     /// Moves to an offset in bytes from the start, maybe after the end.
     fn seek_to(&mut self, place: u64) -> io::Result<()>
-        ensures monotone { Self.failures self.old ≤ Self.failures self.new }
-        ensures failed { OnErr result (Rises (Self.failures self.old) (Self.failures self.new)) }
-        ensures done { OnOk result (Self.failures self.new ≡ Self.failures self.old) }
-        ensures given { Self.given self.new ≡ Self.given self.old }
-        ensures memory { IsTrue Self.known → OnOk result
-            (GoesTo (Self.memory self.old) (Self.memory self.new) place) }
-        ensures whole { IsTrue Self.still
-            → (Self.memory self.new).whole ≡ (Self.memory self.old).whole };
+        ensures monotone { Self.device.failures self.old ≤ Self.device.failures self.new }
+        ensures failed { OnErr result
+            (Rises (Self.device.failures self.old) (Self.device.failures self.new)) }
+        ensures done { OnOk result
+            (Self.device.failures self.new ≡ Self.device.failures self.old) }
+        ensures given { Self.device.given self.new ≡ Self.device.given self.old }
+        ensures memory { IsTrue Self.device.is_memory → OnOk result
+            (GoesTo (Self.device.memory self.old) (Self.device.memory self.new) place) }
+        ensures whole { IsTrue Self.device.is_read_only
+            → (Self.device.memory self.new).whole ≡ (Self.device.memory self.old).whole }
+        ensures names { Self.device.names self.new ≡ Self.device.names self.old }
+        ensures answered { IfErr result (λ e. Self.device.answered self.new e) };
 
     /// Moves to the end, and returns its offset in bytes.
     fn seek_end(&mut self) -> io::Result<u64>
-        ensures monotone { Self.failures self.old ≤ Self.failures self.new }
-        ensures failed { OnErr result (Rises (Self.failures self.old) (Self.failures self.new)) }
-        ensures done { OnOk result (Self.failures self.new ≡ Self.failures self.old) }
-        ensures given { Self.given self.new ≡ Self.given self.old }
-        ensures memory { IsTrue Self.known → IfOk result (λ n.
-            (n ≡ length (Self.memory self.old).whole)
-            × GoesTo (Self.memory self.old) (Self.memory self.new) n) }
-        ensures whole { IsTrue Self.still
-            → (Self.memory self.new).whole ≡ (Self.memory self.old).whole };
+        ensures monotone { Self.device.failures self.old ≤ Self.device.failures self.new }
+        ensures failed { OnErr result
+            (Rises (Self.device.failures self.old) (Self.device.failures self.new)) }
+        ensures done { OnOk result
+            (Self.device.failures self.new ≡ Self.device.failures self.old) }
+        ensures given { Self.device.given self.new ≡ Self.device.given self.old }
+        ensures memory { IsTrue Self.device.is_memory → IfOk result (λ n.
+            (n ≡ length (Self.device.memory self.old).whole)
+            × GoesTo (Self.device.memory self.old) (Self.device.memory self.new) n) }
+        ensures whole { IsTrue Self.device.is_read_only
+            → (Self.device.memory self.new).whole ≡ (Self.device.memory self.old).whole }
+        ensures names { Self.device.names self.new ≡ Self.device.names self.old }
+        ensures answered { IfErr result (λ e. Self.device.answered self.new e) };
 
     /// Returns the position, as an offset in bytes from the start.
     fn position(&mut self) -> io::Result<u64>
-        ensures monotone { Self.failures self.old ≤ Self.failures self.new }
-        ensures failed { OnErr result (Rises (Self.failures self.old) (Self.failures self.new)) }
-        ensures done { OnOk result (Self.failures self.new ≡ Self.failures self.old) }
-        ensures given { Self.given self.new ≡ Self.given self.old }
-        ensures place { IsTrue Self.known → IfOk result (λ n. n ≡ (Self.memory self.old).place) }
-        ensures stays { IsTrue Self.known → Self.memory self.new ≡ Self.memory self.old }
-        ensures whole { IsTrue Self.still
-            → (Self.memory self.new).whole ≡ (Self.memory self.old).whole };
+        ensures monotone { Self.device.failures self.old ≤ Self.device.failures self.new }
+        ensures failed { OnErr result
+            (Rises (Self.device.failures self.old) (Self.device.failures self.new)) }
+        ensures done { OnOk result
+            (Self.device.failures self.new ≡ Self.device.failures self.old) }
+        ensures given { Self.device.given self.new ≡ Self.device.given self.old }
+        ensures place { IsTrue Self.device.is_memory
+            → IfOk result (λ n. n ≡ (Self.device.memory self.old).place) }
+        ensures stays { IsTrue Self.device.is_memory
+            → Self.device.memory self.new ≡ Self.device.memory self.old }
+        ensures whole { IsTrue Self.device.is_read_only
+            → (Self.device.memory self.new).whole ≡ (Self.device.memory self.old).whole }
+        ensures names { Self.device.names self.new ≡ Self.device.names self.old }
+        ensures answered { IfErr result (λ e. Self.device.answered self.new e) };
 
     // A theorem: seeking in memory leaves its bytes unchanged.
-    ghost known_still: { IsTrue Self.known → IsTrue Self.still };
+    ghost known_still: { IsTrue Self.device.is_memory → IsTrue Self.device.is_read_only };
 }
 
 impl<D: Failures> Failures for &mut D {
-    ghost known = { D.known };
-
-    ghost still = { D.still };
-
-    ghost memory = { λ d. D.memory d.now };
-
-    ghost failures = { λ d. D.failures d.now };
-
-    ghost given = { λ d. D.given d.now };
+    ghost device = { behind D.device };
 
     fn failures(&self) -> u64 {
         Failures::failures(&**self)
@@ -217,21 +214,11 @@ impl<D: Failures> Failures for &mut D {
 }
 
 impl<R: Reads> Reads for &mut R {
-    ghost gives = { λ a xs e b. R.gives a.now xs e b.now };
+    ghost gives = { gives_behind R.gives };
 
     ghost shows = { λ a n. R.shows a.now n };
 
-    ghost gives_nothing = { λ a. R.gives_nothing a.now };
-
-    ghost gives_in_order = { λ a xs b ys e c. R.gives_in_order a.now xs b.now ys e c.now };
-
-    ghost gives_counted = { λ a xs e b. R.gives_counted a.now xs e b.now };
-
-    ghost gives_fails = { λ a xs e b. R.gives_fails a.now xs e b.now };
-
-    ghost gives_ahead = { λ a xs e b. R.gives_ahead a.now xs e b.now };
-
-    ghost gives_still = { λ a xs e b. R.gives_still a.now xs e b.now };
+    ghost laws = { laws_behind R.device R.gives R.laws };
 
     fn given(&self) -> u64 {
         Reads::given(&**self)
@@ -251,10 +238,6 @@ impl<R: Reads> Reads for &mut R {
 }
 
 impl<W: Writes> Writes for &mut W {
-    ghost grows = { W.grows };
-
-    ghost room = { λ w. W.room w.now };
-
     const GROWS: bool = W::GROWS;
 
     fn write(&mut self, buf: &[u8]) -> io::Result<usize> {
@@ -280,4 +263,13 @@ impl<S: Seeks> Seeks for &mut S {
     fn position(&mut self) -> io::Result<u64> {
         Seeks::position(&mut **self)
     }
+}
+
+/// The same reference, after a value that had it returned it. A caller that lent it learns by this
+/// call what the value left behind it.
+pub fn itself<D>(device: &mut D) -> &mut D
+    ensures same_reference { result.ghost_name ≡ device.entry.ghost_name }
+    ensures now { result.now ≡ device.entry.now }
+{
+    device
 }

@@ -10,7 +10,7 @@ pub mod memory;
 pub mod reading;
 pub mod watched;
 
-pub use device::{Failures, Reads, Seeks, Writes};
+pub use device::{Failures, Reads, Seeks, Writes, itself};
 pub use fault::{ArgFault, Fault, Nyi, OutOfSpecKind, Result, SchemaFault, StateFault, TableFault};
 pub use memory::{Bytes, MemFile};
 pub use reading::{fill, read_bytes, read_into};

@@ -1,23 +1,16 @@
 //! Devices in memory. They count no failures, and read and write exactly their bytes.
-ghost use Rattle.std.specs.Prelude.{◌≡◌, ℕ, ◌+◌, ◌-◌, ◌<◌, ◌≤◌, true, List, [], ◌++◌, length, take, drop, replicate, min, OnOk, OnErr, vec_len, vec_capacity};
-ghost use Rattle.ipc_devices.specs.Device.{before};
-ghost use Rattle.ipc_devices.specs.Gives.{MemoryGives};
-ghost use Rattle.ipc_devices.specs.GivesLaws.{memory_nothing, memory_in_order};
+ghost use Rattle.std.specs.Prelude.{◌≡◌, ℕ, ◌+◌, ◌-◌, ◌<◌, ◌≤◌, List, [], ◌++◌, length, take, drop, replicate, min, OnOk, OnErr, vec_len, vec_capacity};
+ghost use Rattle.ipc_devices.specs.Device.{before, memory_device};
+ghost use Rattle.ipc_devices.specs.Gives.{memory_gives};
+ghost use Rattle.ipc_devices.specs.GivesLaws.{memory_laws};
 
 use crate::device::{Failures, Reads, Seeks, Writes};
 use std::alloc::AllocError;
 use std::io;
 
 impl Failures for Vec<u8> {
-    ghost known = { true };
-
-    ghost still = { true };
-
-    ghost memory = { λ v. record { whole = v.items; place = vec_len v } };
-
-    ghost failures = { λ _. 0 };
-
-    ghost given = { λ _. 0 };
+    ghost device = { memory_device (λ v. record { whole = v.items; place = vec_len v }) (λ _. 0)
+        (λ v. vec_capacity v - vec_len v) };
 
     fn failures(&self) -> u64 {
         0
@@ -25,10 +18,6 @@ impl Failures for Vec<u8> {
 }
 
 impl Writes for Vec<u8> {
-    ghost grows = { true };
-
-    ghost room = { λ v. vec_capacity v - vec_len v };
-
     const GROWS: bool = true;
 
     fn write(&mut self, buf: &[u8]) -> io::Result<usize> {
@@ -45,6 +34,9 @@ impl Writes for Vec<u8> {
 pub trait Bytes {
     ghost bytes: { Self → List ℕ };
 
+    // How many bytes it can hold before it has to grow.
+    ghost capacity: { Self → ℕ };
+
     /// Returns the bytes.
     fn bytes(&self) -> &[u8]
         ensures { result.now ≡ bytes self.now };
@@ -53,6 +45,8 @@ pub trait Bytes {
 impl Bytes for Vec<u8> {
     ghost bytes = { λ v. v.items };
 
+    ghost capacity = { λ v. vec_capacity v };
+
     fn bytes(&self) -> &[u8] {
         self.as_slice()
     }
@@ -60,6 +54,8 @@ impl Bytes for Vec<u8> {
 
 impl Bytes for &[u8] {
     ghost bytes = { λ s. s.now };
+
+    ghost capacity = { λ _. 0 };
 
     fn bytes(&self) -> &[u8] {
         *self
@@ -98,15 +94,9 @@ impl<B: Bytes> MemFile<B> {
 }
 
 impl<B: Bytes> Failures for MemFile<B> {
-    ghost known = { true };
-
-    ghost still = { true };
-
-    ghost memory = { λ f. record { whole = B.bytes f.inner; place = f.position } };
-
-    ghost failures = { λ _. 0 };
-
-    ghost given = { λ f. f.given };
+    ghost device = { memory_device (λ f. record { whole = B.bytes f.inner; place = f.position })
+        (λ f. f.given)
+        (λ f. B.capacity f.inner - f.position) };
 
     fn failures(&self) -> u64 {
         0
@@ -134,24 +124,14 @@ fn copy_front(from: &[u8], to: &mut [u8]) -> usize
 }
 
 impl<B: Bytes> Reads for MemFile<B> {
-    ghost gives = { λ a xs e b. MemoryGives (record { whole = B.bytes a.inner; place = a.position }) a.given xs e
-        (record { whole = B.bytes b.inner; place = b.position }) b.given };
+    ghost gives = { memory_gives (λ f. record { whole = B.bytes f.inner; place = f.position })
+        (λ f. f.given) };
 
     ghost shows = { λ a n. n ≤ length (drop a.position (B.bytes a.inner)) };
 
-    ghost gives_nothing = { λ a. memory_nothing (record { whole = B.bytes a.inner; place = a.position }) a.given };
-
-    ghost gives_in_order = { λ a xs b ys e c. memory_in_order (record { whole = B.bytes a.inner; place = a.position })
-        (record { whole = B.bytes b.inner; place = b.position }) (record { whole = B.bytes c.inner; place = c.position })
-        a.given b.given c.given xs ys e };
-
-    ghost gives_counted = { λ a xs e b g. g.counts };
-
-    ghost gives_fails = { λ a xs e b g. g.succeeds };
-
-    ghost gives_ahead = { λ a xs e b k g. g.takes };
-
-    ghost gives_still = { λ a xs e b k g. g.moves };
+    ghost laws = { memory_laws (λ f. record { whole = B.bytes f.inner; place = f.position })
+        (λ f. f.given)
+        (λ f. B.capacity f.inner - f.position) };
 
     fn given(&self) -> u64 {
         self.given
@@ -236,10 +216,6 @@ fn overwrite(bytes: &mut [u8], place: usize, buf: &[u8])
 }
 
 impl Writes for MemFile<Vec<u8>> {
-    ghost grows = { true };
-
-    ghost room = { λ f. vec_capacity f.inner - f.position };
-
     const GROWS: bool = true;
 
     fn write(&mut self, buf: &[u8]) -> io::Result<usize> {

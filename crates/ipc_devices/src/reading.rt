@@ -1,7 +1,7 @@
 //! Reads a known number of bytes from a device.
 ghost use Rattle.std.specs.Prelude.{◌≡◌, ◌+◌, ◌^◌, ◌<◌, ◌≤◌, length, take, drop, IsTrue, IfOk, IfErr, OnOk, OnErr, MatchResult};
 ghost use Rattle.ipc_devices.specs.Device.{Rises, after};
-ghost use Rattle.ipc_devices.specs.Faults.{OnIo, UnlessIo, OwnFault, Answers};
+ghost use Rattle.ipc_devices.specs.Faults.{IfIo, OnIo, UnlessIo, OwnFault, Answers};
 ghost use Rattle.ipc_devices.specs.Gives.{FillGives, IntoGives, PieceGives, StopsBefore, going};
 ghost use Rattle.ipc_devices.specs.Reading.{HasRead, MovesBytes};
 ghost use Rattle.ipc_devices.specs.declared.fault.Fault.TheVariants.{Ended};
@@ -22,13 +22,18 @@ const MOST_AT_ONCE: usize = 65_536;
 pub fn fill<R: Reads>(reader: &mut R, buf: &mut [u8]) -> io::Result<usize>
     ensures bound { IfOk result (λ n. n ≤ length buf.new) }
     ensures gives { FillGives R.gives reader.old result buf.new reader.new }
-    ensures monotone { R.failures reader.old ≤ R.failures reader.new }
-    ensures failed { OnErr result (Rises (R.failures reader.old) (R.failures reader.new)) }
-    ensures done { OnOk result (R.failures reader.new ≡ R.failures reader.old) }
-    ensures given { R.given reader.new ≤ R.given reader.old + length buf.old }
-    ensures memory { IsTrue R.known → IfOk result (λ n.
-        HasRead (after (R.memory reader.old)) (after (R.memory reader.new)) n buf.new) }
-    ensures whole { IsTrue R.still → (R.memory reader.new).whole ≡ (R.memory reader.old).whole }
+    ensures monotone { R.device.failures reader.old ≤ R.device.failures reader.new }
+    ensures failed { OnErr result
+        (Rises (R.device.failures reader.old) (R.device.failures reader.new)) }
+    ensures done { OnOk result (R.device.failures reader.new ≡ R.device.failures reader.old) }
+    ensures given { R.device.given reader.new ≤ R.device.given reader.old + length buf.old }
+    ensures memory { IsTrue R.device.is_memory → IfOk result (λ n.
+        HasRead (after (R.device.memory reader.old)) (after (R.device.memory reader.new)) n
+        buf.new) }
+    ensures whole { IsTrue R.device.is_read_only
+        → (R.device.memory reader.new).whole ≡ (R.device.memory reader.old).whole }
+    ensures names { R.device.names reader.new ≡ R.device.names reader.old }
+    ensures answered { IfErr result (λ e. R.device.answered reader.new e) }
 {
     let mut at = 0;
     while at < buf.len() {
@@ -48,13 +53,18 @@ fn add_piece<R: Reads>(reader: &mut R, bytes: &mut Vec<u8>, count: usize) -> Res
     ensures grown { OnOk result (length bytes.new.items ≡ length bytes.old.items + count) }
     ensures only { IfErr result (λ e. OwnFault e (e ≡ Ended)) }
     ensures gives { PieceGives R.gives reader.old bytes.old.items count result bytes.new.items reader.new }
-    ensures monotone { R.failures reader.old ≤ R.failures reader.new }
-    ensures failed { OnIo result (Rises (R.failures reader.old) (R.failures reader.new)) }
-    ensures told { UnlessIo result (R.failures reader.new ≡ R.failures reader.old) }
-    ensures given { R.given reader.new ≤ R.given reader.old + count }
-    ensures memory { IsTrue R.known → MovesBytes bytes.old.items (after (R.memory reader.old)) count
-        result bytes.new.items (after (R.memory reader.new)) }
-    ensures whole { IsTrue R.still → (R.memory reader.new).whole ≡ (R.memory reader.old).whole }
+    ensures monotone { R.device.failures reader.old ≤ R.device.failures reader.new }
+    ensures failed { OnIo result
+        (Rises (R.device.failures reader.old) (R.device.failures reader.new)) }
+    ensures told { UnlessIo result (R.device.failures reader.new ≡ R.device.failures reader.old) }
+    ensures given { R.device.given reader.new ≤ R.device.given reader.old + count }
+    ensures memory { IsTrue R.device.is_memory
+        → MovesBytes bytes.old.items (after (R.device.memory reader.old)) count
+        result bytes.new.items (after (R.device.memory reader.new)) }
+    ensures whole { IsTrue R.device.is_read_only
+        → (R.device.memory reader.new).whole ≡ (R.device.memory reader.old).whole }
+    ensures names { R.device.names reader.new ≡ R.device.names reader.old }
+    ensures answered { IfIo result (λ e. R.device.answered reader.new e) }
 {
     let start = bytes.len();
     bytes.resize(start + count, 0)?;
@@ -93,16 +103,20 @@ pub fn read_into<R: Reads>(reader: &mut R, bytes: &mut Vec<u8>, count: usize) ->
     ensures count { OnOk result (length bytes.new.items ≡ count) }
     ensures only { IfErr result (λ e. OwnFault e (e ≡ Ended)) }
     ensures gives { IntoGives R.gives reader.old count result bytes.new.items reader.new }
-    ensures monotone { R.failures reader.old ≤ R.failures reader.new }
-    ensures failed { OnIo result (Rises (R.failures reader.old) (R.failures reader.new)) }
-    ensures told { UnlessIo result (R.failures reader.new ≡ R.failures reader.old) }
-    ensures given { R.given reader.new ≤ R.given reader.old + count }
-    ensures left { IsTrue R.known → OnOk result
-        (after (R.memory reader.new) ≡ drop count (after (R.memory reader.old))) }
-    ensures memory { IsTrue R.known → Answers result
-        (count ≤ length (after (R.memory reader.old)))
-        (λ _. bytes.new.items ≡ take count (after (R.memory reader.old))) }
-    ensures whole { IsTrue R.still → (R.memory reader.new).whole ≡ (R.memory reader.old).whole }
+    ensures monotone { R.device.failures reader.old ≤ R.device.failures reader.new }
+    ensures failed { OnIo result
+        (Rises (R.device.failures reader.old) (R.device.failures reader.new)) }
+    ensures told { UnlessIo result (R.device.failures reader.new ≡ R.device.failures reader.old) }
+    ensures given { R.device.given reader.new ≤ R.device.given reader.old + count }
+    ensures left { IsTrue R.device.is_memory → OnOk result
+        (after (R.device.memory reader.new) ≡ drop count (after (R.device.memory reader.old))) }
+    ensures memory { IsTrue R.device.is_memory → Answers result
+        (count ≤ length (after (R.device.memory reader.old)))
+        (λ _. bytes.new.items ≡ take count (after (R.device.memory reader.old))) }
+    ensures whole { IsTrue R.device.is_read_only
+        → (R.device.memory reader.new).whole ≡ (R.device.memory reader.old).whole }
+    ensures names { R.device.names reader.new ≡ R.device.names reader.old }
+    ensures answered { IfIo result (λ e. R.device.answered reader.new e) }
 {
     bytes.clear();
     while bytes.len() < count {
@@ -122,16 +136,20 @@ pub fn read_bytes<R: Reads>(alloc: Global, reader: &mut R, count: usize) -> Resu
     ensures gives { MatchResult result
         (λ v. R.gives reader.old v.items going reader.new)
         (λ e. StopsBefore R.gives reader.old count e reader.new) }
-    ensures monotone { R.failures reader.old ≤ R.failures reader.new }
-    ensures failed { OnIo result (Rises (R.failures reader.old) (R.failures reader.new)) }
-    ensures told { UnlessIo result (R.failures reader.new ≡ R.failures reader.old) }
-    ensures given { R.given reader.new ≤ R.given reader.old + count }
-    ensures left { IsTrue R.known → OnOk result
-        (after (R.memory reader.new) ≡ drop count (after (R.memory reader.old))) }
-    ensures memory { IsTrue R.known → Answers result
-        (count ≤ length (after (R.memory reader.old)))
-        (λ v. v.items ≡ take count (after (R.memory reader.old))) }
-    ensures whole { IsTrue R.still → (R.memory reader.new).whole ≡ (R.memory reader.old).whole }
+    ensures monotone { R.device.failures reader.old ≤ R.device.failures reader.new }
+    ensures failed { OnIo result
+        (Rises (R.device.failures reader.old) (R.device.failures reader.new)) }
+    ensures told { UnlessIo result (R.device.failures reader.new ≡ R.device.failures reader.old) }
+    ensures given { R.device.given reader.new ≤ R.device.given reader.old + count }
+    ensures left { IsTrue R.device.is_memory → OnOk result
+        (after (R.device.memory reader.new) ≡ drop count (after (R.device.memory reader.old))) }
+    ensures memory { IsTrue R.device.is_memory → Answers result
+        (count ≤ length (after (R.device.memory reader.old)))
+        (λ v. v.items ≡ take count (after (R.device.memory reader.old))) }
+    ensures whole { IsTrue R.device.is_read_only
+        → (R.device.memory reader.new).whole ≡ (R.device.memory reader.old).whole }
+    ensures names { R.device.names reader.new ≡ R.device.names reader.old }
+    ensures answered { IfIo result (λ e. R.device.answered reader.new e) }
 {
     let mut bytes = Vec::new(alloc);
     read_into(reader, &mut bytes, count)?;

@@ -1,8 +1,8 @@
 //! Devices of the standard library, with counts.
-ghost use Rattle.std.specs.Prelude.{◌≡◌, ◌≤◌, false, [], OnOk, OnErr};
-ghost use Rattle.ipc_devices.specs.Device.{Rises};
-ghost use Rattle.ipc_devices.specs.Gives.{CountsGive};
-ghost use Rattle.ipc_devices.specs.GivesLaws.{counts_nothing, counts_in_order, never};
+ghost use Rattle.std.specs.Prelude.{◌≡◌, ◌≤◌, true, [], OnOk, OnErr};
+ghost use Rattle.ipc_devices.specs.Device.{Rises, counted_device};
+ghost use Rattle.ipc_devices.specs.Gives.{counts_give};
+ghost use Rattle.ipc_devices.specs.GivesLaws.{counts_laws};
 
 use crate::device::{Failures, Reads, Seeks, Writes};
 use std::io;
@@ -17,17 +17,20 @@ pub struct Watched<T> {
     inner: T,
     failures: u64,
     given: u64,
+    // all that was written was flushed
+    is_flushed: bool,
 }
 
 impl<T> Watched<T> {
-    /// Returns a device with both counts at 0.
+    /// A device whose counts are 0, to which nothing was written.
     pub fn new(inner: T) -> Watched<T>
-        ensures { result ≡ record { inner = inner; failures = 0; given = 0 } }
+        ensures { result ≡ record { inner = inner; failures = 0; given = 0; is_flushed = true } }
     {
         Watched {
             inner,
             failures: 0,
             given: 0,
+            is_flushed: true,
         }
     }
 
@@ -57,15 +60,7 @@ impl<T> Watched<T> {
 }
 
 impl<T> Failures for Watched<T> {
-    ghost known = { false };
-
-    ghost still = { false };
-
-    ghost memory = { λ _. record { whole = []; place = 0 } };
-
-    ghost failures = { λ w. w.failures };
-
-    ghost given = { λ w. w.given };
+    ghost device = { counted_device (λ w. w.failures) (λ w. w.given) (λ w. w.is_flushed) };
 
     fn failures(&self) -> u64 {
         self.failures
@@ -73,21 +68,11 @@ impl<T> Failures for Watched<T> {
 }
 
 impl<T: io::Read> Reads for Watched<T> {
-    ghost gives = { λ a xs e b. CountsGive a.failures a.given xs e b.failures b.given };
+    ghost gives = { counts_give (λ w. w.failures) (λ w. w.given) };
 
     ghost shows = { λ _ _. ⊥ };
 
-    ghost gives_nothing = { λ a. counts_nothing a.failures a.given };
-
-    ghost gives_in_order = { λ a xs b ys e c. counts_in_order a.failures a.given b.failures b.given c.failures c.given xs ys e };
-
-    ghost gives_counted = { λ a xs e b g. g.counts };
-
-    ghost gives_fails = { λ a xs e b g. g.fails };
-
-    ghost gives_ahead = { λ a xs e b k. never k };
-
-    ghost gives_still = { λ a xs e b k. never k };
+    ghost laws = { counts_laws (λ w. w.failures) (λ w. w.given) (λ w. w.is_flushed) };
 
     fn given(&self) -> u64 {
         self.given
@@ -113,13 +98,10 @@ impl<T: io::Read> Reads for Watched<T> {
 }
 
 impl<T: io::Write> Writes for Watched<T> {
-    ghost grows = { false };
-
-    ghost room = { λ _. 0 };
-
     const GROWS: bool = false;
 
     fn write(&mut self, buf: &[u8]) -> io::Result<usize> {
+        self.is_flushed = false;
         let written = match self.inner.write(buf) {
             Ok(0) if !buf.is_empty() => Err(io::Error::from(ErrorKind::WriteZero)),
             written => written,
@@ -134,6 +116,8 @@ impl<T: io::Write> Writes for Watched<T> {
         let flushed = self.inner.flush();
         if flushed.is_err() {
             self.failures = self.failures.saturating_add(1);
+        } else {
+            self.is_flushed = true;
         }
         flushed
     }

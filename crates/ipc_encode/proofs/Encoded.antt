@@ -1,5 +1,5 @@
 -- The message of a batch is that of its columns, and why there is none.
-use Rattle.std.proofs.Common.{arith, ◌≡◌, ℕ, ℤ, pos, ◌⊎◌, inl, inr, ◌^◌, ◌<◌, ◌≤◌, List, length, All, refl, sym, ap, ap₂, ◌∙◌, subst}
+use Rattle.std.proofs.Common.{arith, ◌≡◌, ℕ, ℤ, pos, ◌⊎◌, inl, inr, ◌*◌, ◌^◌, ◌<◌, ◌≤◌, List, length, All, refl, sym, ap, ap₂, ◌∙◌, subst}
 use Rattle.std.specs.Prelude.{None, Vec}
 use Rattle.std.specs.declared.alloc.Global.{Global}
 use Rattle.lower_types.specs.declared.Endianness.{Endianness}
@@ -37,6 +37,13 @@ planned order ls p h = ap (λ (o : Endianness). pieces_bytes o p.pieces.items) h
 
 pub planned_end : (order : Endianness) (ls : List Layout) (p : Plan) (h : PlansColumns order ls p) → p.end ≡ length (pieces_bytes order p.pieces.items)
 planned_end order ls p h = h.end_is ∙ ap length (sym h.body_is)
+
+-- What is left of a plan whose nodes and buffers were moved.
+pub kept_end : (order : Endianness) (ls : List Layout) (p q : Plan) → PlansColumns order ls p → q.pieces.items ≡ p.pieces.items → q.end ≡ p.end → q.end ≡ length (pieces_bytes order q.pieces.items)
+kept_end order ls p q h pieces end = rw pieces (end ∙ planned_end order ls p h)
+
+pub kept_few : (order : Endianness) (ls : List Layout) (p q : Plan) → PlansColumns order ls p → q.pieces.items ≡ p.pieces.items → length q.pieces.items ≤ 2 * length (body_lengths (levels_of ls))
+kept_few order ls p q h pieces = omega (arith, ap length pieces, h.piece_count, h.buffer_count)
 
 pub encoded : (kind : BatchKind) (order : Endianness) (ls : List Layout) (rows : ℕ) (p q : Plan) (m : Message) (given : ℤ) (metadata : List ℕ)
     → AreArrays (layouts ls) → PlansColumns order ls p → AreShort (levels_of ls) → p.end ≡ body_length (body_lengths (levels_of ls)) → p.end < 2 ^ 63 → IsMessageOfPlan m kind given p → IdFits kind → given ≡ pos rows → rows < 2 ^ 63

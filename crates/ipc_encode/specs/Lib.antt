@@ -1,3 +1,4 @@
+pub mod Api
 pub mod Appending
 pub mod EncodedLaws
 pub mod Encoding

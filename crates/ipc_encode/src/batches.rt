@@ -1,19 +1,18 @@
 //! Encodes batches as messages: metadata, and bodies in pieces.
 //!
 //! Arrow columnar format, "RecordBatch message" and "Dictionary Messages".
-ghost use Rattle.std.specs.Prelude.{◌≡◌, ◌*◌, ◌^◌, ◌<◌, ◌≤◌, [], length, map, IfOk};
+ghost use Rattle.std.specs.Prelude.{◌≡◌, ◌^◌, ◌<◌, [], map, IfOk};
 ghost use Rattle.lower_arrays.specs.AnyLayouts.{layout_of};
+ghost use Rattle.ipc_encode.specs.Api.{EncodesBatch};
 ghost use Rattle.ipc_encode.specs.Appending.{order_of};
-ghost use Rattle.ipc_encode.specs.Encoding.{AnswersBatch, IdFits, IsEncoded, IsMessageOfPlan, header_in, levels_of};
-ghost use Rattle.ipc_model.specs.Offers.{body_lengths};
-ghost use Rattle.ipc_plan.specs.Pieces.{pieces_bytes};
+ghost use Rattle.ipc_encode.specs.Encoding.{AnswersBatch, IdFits, IsMessageOfPlan, header_in, levels_of};
 
 use crate::serialize::byte_order;
 use ipc_devices::{ArgFault, Fault};
 use ipc_plan::plan::Plan;
 use ipc_plan::serialize::plan_columns;
-use ipc_tables::message::{DictionaryBatch, Message, MessageHeader, RecordBatch};
 use ipc_table_views::MetadataVersion;
+use ipc_tables::message::{DictionaryBatch, Message, MessageHeader, RecordBatch};
 use lower_arrays::array::AnyArray;
 use std::alloc::Global;
 use std::mem::replace;
@@ -99,13 +98,9 @@ pub fn encode_batch<'a>(
     rows: usize,
     is_little_endian: bool,
 ) -> Result<Encoded<'a>, Fault>
-    ensures encodes { IfOk result (λ encoded. IsEncoded kind (order_of is_little_endian) (map layout_of columns.now) rows encoded.metadata.items
-        (pieces_bytes (order_of is_little_endian) encoded.body.pieces.items)) }
-    ensures takes { AnswersBatch result kind rows (levels_of (map layout_of columns.now)) }
-    ensures order { IfOk result (λ encoded. encoded.body.order ≡ order_of is_little_endian) }
-    ensures end { IfOk result (λ encoded. encoded.body.end ≡ length (pieces_bytes (order_of is_little_endian) encoded.body.pieces.items)) }
-    ensures few { IfOk result (λ encoded. length encoded.body.pieces.items ≤ 2 * length (body_lengths (levels_of (map layout_of columns.now)))) }
-    ensures moved { IfOk result (λ encoded. (encoded.body.nodes.items ≡ []) × (encoded.body.buffers.items ≡ [])) }
+    ensures exact { AnswersBatch result kind rows (levels_of (map layout_of columns.now)) }
+    ensures batch { let order = order_of is_little_endian in
+        IfOk result (λ encoded. EncodesBatch kind order (map layout_of columns.now) rows encoded) }
 {
     let Ok(length) = i64::try_from(rows) else {
         return Err(Fault::Argument(ArgFault::TooLong));

@@ -90,8 +90,11 @@ impl<'a> Record<'a> {
     /// What is borrowed stays borrowed, and what is owned is cloned. It fails if an allocation
     /// fails or the count of owners can't grow.
     pub fn clone(&self) -> Result<Record<'a>, AllocError>
-        ensures columns { IfOk result (λ copy. map layout_of (columns_of copy) ≡ map layout_of (columns_of self.now)) }
-        ensures fields { IfOk result (λ copy. option_map all_ids_view (fields_of copy) ≡ option_map all_ids_view (fields_of self.now)) }
+        ensures columns { IfOk result (λ copy.
+            map layout_of (columns_of copy) ≡ map layout_of (columns_of self.now)) }
+        ensures fields { IfOk result (λ copy.
+            option_map all_ids_view (fields_of copy)
+            ≡ option_map all_ids_view (fields_of self.now)) }
         ensures lent { IfOk result (λ copy. LendsAgain self.now copy) }
     {
         Ok(Record {

@@ -3,6 +3,7 @@ ghost use Rattle.std.specs.Prelude.{◌≡◌, ◌+◌, ◌^◌, ◌<◌, ◌++�
 ghost use Rattle.lower_arrays.specs.AnyLayouts.{layout_of};
 ghost use Rattle.lower_arrays.specs.Slots.{IsArray};
 ghost use Rattle.ipc_devices.specs.declared.fault.Fault.TheVariants.{Memory};
+ghost use Rattle.ipc_encode.specs.Api.{KeepsParts, parts};
 ghost use Rattle.ipc_encode.specs.Appending.{TakesSayable, JoinsParts, PlansFrom, order_of};
 ghost use Rattle.ipc_model.specs.Entries.{IsSize, size};
 ghost use Rattle.ipc_model.specs.Offers.{whole_levels};
@@ -109,14 +110,13 @@ pub fn write(
     is_little_endian: bool,
 ) -> Result<(), Fault>
     requires { IsSize offset.old }
+    ensures exact { TakesSayable result (whole_levels (layout_of array.now)) (size offset.old) }
     ensures appends { OnOk result (JoinsParts (order_of is_little_endian) (layout_of array.now)
-        (record { nodes = nodes.old.items; buffers = buffers.old.items; bytes = arrow_data.old.items; offset = offset.old })
-        (record { nodes = nodes.new.items; buffers = buffers.new.items; bytes = arrow_data.new.items; offset = offset.new })) }
-    ensures takes { TakesSayable result (whole_levels (layout_of array.now)) (size offset.old) }
-    ensures nodes { OnErr result (nodes.new.items ≡ nodes.old.items) }
-    ensures buffers { OnErr result (buffers.new.items ≡ buffers.old.items) }
-    ensures bytes { OnErr result (arrow_data.new.items ≡ arrow_data.old.items) }
-    ensures offset { OnErr result (offset.new ≡ offset.old) }
+        (parts nodes.old.items buffers.old.items arrow_data.old.items offset.old)
+        (parts nodes.new.items buffers.new.items arrow_data.new.items offset.new)) }
+    ensures kept { OnErr result (KeepsParts
+        (parts nodes.old.items buffers.old.items arrow_data.old.items offset.old)
+        (parts nodes.new.items buffers.new.items arrow_data.new.items offset.new)) }
 {
     let start = offset.cast_unsigned();
     let plan = plan_from(alloc, array, start, byte_order(is_little_endian))?;

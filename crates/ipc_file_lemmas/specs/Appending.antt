@@ -13,6 +13,7 @@ use Rattle.ipc_file_lemmas.specs.FileBytes.{HoldsFile}
 -- ---- the numbers of blocks
 
 -- A signed number is negative.
+
 abbrev pub IsNegative : ℤ → Type 0
 IsNegative (pos n) = ⊥
 IsNegative (negsuc n) = Unit {0}

@@ -1,5 +1,5 @@
 -- What was read of a block, as a reader returns it.
-use Rattle.std.proofs.Common.{◌≡◌, ℕ, ℤ, ◌+◌, ◌≤◌, List, map, length, Bool, true, IsTrue, Option, None, Some, Result, Ok, Err, IfOk, IfErr, OnOk, refl, sym, ap, ◌∙◌, subst}
+use Rattle.std.proofs.Common.{◌≡◌, ℕ, ℤ, ◌+◌, ◌≤◌, List, map, length, Bool, true, IsTrue, Option, None, Some, Result, Ok, Err, IfOk, IfErr, OnOk, refl, sym, ap, ◌∙◌, subst, false}
 use Rattle.std.specs.Prelude.{slice_get, option_map, is_some}
 use Rattle.std.specs.HashMap.{HashMap}
 use Rattle.std.specs.declared.rc.Rc.{Rc}
@@ -102,6 +102,11 @@ known_already view (Some d) known file e = (view d, refl, refl)
 pub not_unread : {D : Type 0} (view : D → Dictionaries) (o : Option D) → is_some o ≡ true → option_map view o ≡ None → ⊥
 not_unread view None e none = absurd cc
 not_unread view (Some d) e none = absurd cc
+
+-- They aren't known yet.
+pub none_known : {D : Type 0} (view : D → Dictionaries) (o : Option D) → is_some o ≡ false → option_map view o ≡ None
+none_known view None e = refl
+none_known view (Some d) e = absurd cc
 
 pub values_already : {Z S : Type 0} (o : Option (HashMap ℤ (Rc AnyArray Z) S)) (known : Bool) (m : Meaning) (source : List ℕ) → is_some o ≡ true
     → HoldValues known m source (option_map known_dictionaries o) (values_in o) (values_in o)

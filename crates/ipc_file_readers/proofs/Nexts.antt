@@ -2,7 +2,7 @@
 use Rattle.std.proofs.Common.{◌≡◌, ℕ, ℤ, ◌+◌, ◌-◌, ◌≤◌, List, Bool, true, false, IsTrue, Option, None, Some, Result, Ok, Err, IfErr, OnOk, refl, sym, ap, ◌∙◌, subst, arith, inr}
 use Rattle.lower_arrays.specs.Layouts.{Layout}
 use Rattle.lower_arrays.specs.declared.array.AnyArray.{AnyArray}
-use Rattle.ipc_devices.specs.Device.{Memory, Rises}
+use Rattle.ipc_devices.specs.Device.{Device, Rises}
 use Rattle.ipc_devices.specs.Faults.{OnIo, UnlessIo, OwnFault}
 use Rattle.ipc_devices.specs.declared.fault.Fault.{Fault}
 use Rattle.ipc_devices.specs.declared.fault.Fault.TheVariants as faults
@@ -58,22 +58,22 @@ same_chunk known m n p q l k i j ds xs old new metadata r a b c d h =
     (subst (λ (x : Limit). WasChunk known n q x i ds xs old new metadata r) c
     (subst (λ (x : ℕ). WasChunk known n q k x ds xs old new metadata r) d h)))
 
-module _ {R : Type 0} (known still : Bool) (memory : R → Memory) (failures given : R → ℕ) (stays : IsTrue known → IsTrue still)
-    (a mid b : FileReader R) (first : DictionariesGave known still memory failures given a (Ok tt) mid)
-    (r : Result (List AnyArray) Fault) (second : NextGave known still memory failures given mid r b) where
-  same_source : IsTrue known → (memory (device_of mid)).whole ≡ (memory (device_of a)).whole
+module _ {R : Type 0} (d : Device R) (stays : IsTrue d.is_memory → IsTrue d.is_read_only)
+    (a mid b : FileReader R) (first : DictionariesGave d a (Ok tt) mid)
+    (r : Result (List AnyArray) Fault) (second : NextGave d mid r b) where
+  same_source : IsTrue d.is_memory → (d.memory (device_of mid)).whole ≡ (d.memory (device_of a)).whole
   same_source k = first.asked.whole (stays k)
 
-  here : WasChunk known (metadata_of a) (asked_of a) (remaining_of a) (block_of a) first.are.0 (memory (device_of mid)).whole (given (device_of mid)) (given (device_of b)) (message_of b) r
-  here = same_chunk known _ _ _ _ _ _ _ _ first.are.0 _ _ _ _ r first.file.described first.file.asked first.remaining first.block (second.chunk first.are.0 first.are.1)
+  here : WasChunk d.is_memory (metadata_of a) (asked_of a) (remaining_of a) (block_of a) first.are.0 (d.memory (device_of mid)).whole (d.given (device_of mid)) (d.given (device_of b)) (message_of b) r
+  here = same_chunk d.is_memory _ _ _ _ _ _ _ _ first.are.0 _ _ _ _ r first.file.described first.file.asked first.remaining first.block (second.chunk first.are.0 first.are.1)
 
-  was_next : WasNext known memory given a r b
+  was_next : WasNext d a r b
   was_next = record {
     dictionaries = first.are.0;
     held = second.held ∙ first.are.1;
     are = first.are.2;
     held_values =
-        subst (λ (v : Option ℤ → Layout). HoldValues known (file_of a) (memory (device_of a)).whole (known_of a) (values_of a) v) (sym second.values) first.holds;
+        subst (λ (v : Option ℤ → Layout). HoldValues d.is_memory (file_of a) (d.memory (device_of a)).whole (known_of a) (values_of a) v) (sym second.values) first.holds;
     block = second.block ∙ ap (λ (n : ℕ). n + 1) first.block;
     remaining = second.remaining ∙ ap (λ (l : Limit). less l (rows_given r)) first.remaining;
     many = here.many;
@@ -85,32 +85,37 @@ module _ {R : Type 0} (known still : Bool) (memory : R → Memory) (failures giv
         subst (λ (xs : List ℕ). OnOk r (block_metadata xs (slice_get (metadata_of a).blocks.items (block_of a)) ≡ Some (message_of b))) (same_source k) (here.message k);
     bytes = λ ds is.
         let needed = needed_bytes (kinds (file_of a).schema) (columns_asked (metadata_of a) (asked_of a)) (message_of b) in
-        subst (λ (n : ℕ). OnOk r (given (device_of b) ≤ n + needed)) (ap given (first.left_alone ds is)) here.bytes;
+        subst (λ (n : ℕ). OnOk r (d.given (device_of b) ≤ n + needed)) (ap d.given (first.left_alone ds is)) here.bytes;
     first = λ unread.
-        first_given r (λ n. ValuesGiven known (file_of a) (memory (device_of a)).whole (given (device_of a)) n) _ _ _ (first.bytes unread) here.bytes;
+        first_given r (λ n. ValuesGiven d.is_memory (file_of a) (d.memory (device_of a)).whole (d.given (device_of a)) n) _ _ _ (first.bytes unread) here.bytes;
     holds = here.holds;
     meaning = λ k es alike.
         subst (λ (xs : List ℕ). GivesPart chunk_seen r (file_chunk (file_of a) es xs (asked_of a) (remaining_of a) (block_of a))) (same_source k) (here.meaning k es alike);
     values = here.values;
   }
 
-  has_next : (s : Result (List AnyArray) Fault) → WasNext known memory given a s b → HasNext known memory given a (Some s) b
+  has_next : (s : Result (List AnyArray) Fault) → WasNext d a s b → HasNext d a (Some s) b
   has_next (Ok xs) h = h
   has_next (Err e) h = inr h
 
-  pub next_step : is_over a ≡ false → NextStep known still memory failures given a (Some r) b
+  pub next_step : is_over a ≡ false → NextStep d a (Some r) b
   next_step more = record {
-    file = record {
-      described = second.file.described ∙ first.file.described;
-      asked = second.file.asked ∙ first.file.asked;
-      shown = second.file.shown ∙ first.file.shown;
-    };
-    monotone = omega (arith, first.asked.monotone, second.asked.monotone);
-    failed = failed_behind r _ _ _ first.asked.monotone second.asked.failed;
-    told = told_behind r _ _ _ first.asked.told second.asked.told;
-    whole = λ s. second.asked.whole s ∙ first.asked.whole s;
-    room = second.room ∙ ap (λ (p : Rooms). p.0) first.rooms;
     over = λ e. let no : true ≡ false = sym e ∙ more in absurd cc;
     next = λ _. has_next r was_next;
-    unread = λ _ none. let no : None ≡ Some first.are.0 = sym none ∙ second.held ∙ first.are.1 in absurd cc;
+    device = record {
+      monotone = omega (arith, first.asked.monotone, second.asked.monotone);
+      failed = failed_behind r _ _ _ first.asked.monotone second.asked.failed;
+      told = told_behind r _ _ _ first.asked.told second.asked.told;
+      whole = λ s. second.asked.whole s ∙ first.asked.whole s;
+      names = second.asked.names ∙ first.asked.names;
+    };
+    state = record {
+      file = record {
+        described = second.file.described ∙ first.file.described;
+        asked = second.file.asked ∙ first.file.asked;
+        shown = second.file.shown ∙ first.file.shown;
+      };
+      room = second.room ∙ ap (λ (p : Rooms). p.0) first.rooms;
+      unread = λ _ none. let no : None ≡ Some first.are.0 = sym none ∙ second.held ∙ first.are.1 in absurd cc;
+    };
   }

@@ -22,7 +22,7 @@ use Rattle.ipc_model.specs.Kinds.{Kinds, count}
 use Rattle.ipc_model.specs.Schemas.{given}
 use Rattle.ipc_read.specs.Chunks.{chunk_seen, column_seen}
 use Rattle.ipc_base.specs.IdTrees.{all_ids_view}
-use Rattle.ipc_devices.specs.Device.{Memory}
+use Rattle.ipc_devices.specs.Device.{Device}
 use Rattle.ipc_read.proofs.Fields.{field_count}
 use Rattle.ipc_read.proofs.Meanings.{length-slots_from}
 use Rattle.ipc_file_readers.specs.Readers.{Answer, asked_of, block_of, blocks_left, device_of, file_of, less, metadata_of, remaining_of, rows_given}
@@ -228,15 +228,15 @@ no_chunks : (limit : Limit) (cs gs : List Chunk) (p j : ℕ) → gs ≡ [] → l
 no_chunks limit [] gs p j none long = ap (λ (x : List Chunk). joined x p) none ∙ first_none limit
 no_chunks limit (c ∷ cs) gs p j none long = let e = ap length none in absurd (omega (arith, e, long))
 
-module _ {R : Type 0} (known still : Bool) (memory : R → Memory) (failures given : R → ℕ) (stays : IsTrue known → IsTrue still) where
-  pub rows_law : (a : FileReader R) → RowsLaw known still memory failures given a
+module _ {R : Type 0} (d : Device R) (stays : IsTrue d.is_memory → IsTrue d.is_read_only) where
+  pub rows_law : (a : FileReader R) → RowsLaw d a
   rows_law a rs ds cs gs k holds calls mean are long p j at =
       let n = length (metadata_of a).schema.fields.items in
       let many : count (kinds (file_of a).schema) ≡ n = field_count (metadata_of a).schema.fields.items (all_ids_view (metadata_of a).ipc_schema.fields.items) in
       let is : IsProjection (asked_of a) (count (kinds (file_of a).schema)) =
       subst (λ (c : ℕ). IsProjection (asked_of a) c) (sym many) ((projection_decides (asked_of a) n).0 a.there) in
       let column : slice_get (chosen (asked_of a) (count (kinds (file_of a).schema))) p ≡ Some j = ap (λ (c : ℕ). slice_get (chosen (asked_of a) c) p) many ∙ at in
-      elim (items_law known still memory failures given stays a rs ds k holds calls) [
-        | inl items ↦ rows_joined (file_of a) ds (memory (device_of a)).whole (asked_of a) is p j column (blocks_left a) rs cs gs (remaining_of a) (block_of a) items mean are long
+      elim (items_law d stays a rs ds k holds calls) [
+        | inl items ↦ rows_joined (file_of a) ds (d.memory (device_of a)).whole (asked_of a) is p j column (blocks_left a) rs cs gs (remaining_of a) (block_of a) items mean are long
         | inr told ↦ no_chunks (remaining_of a) cs gs p j (told_chunks rs gs told are) long
       ]

@@ -9,8 +9,8 @@ use Rattle.lower_arrays.specs.AnyLayouts.{layout_of}
 use Rattle.lower_arrays.specs.Layouts.{Layout, len_of}
 use Rattle.lower_arrays.specs.declared.array.AnyArray.{AnyArray}
 use Rattle.ipc_base.specs.Chunks.{row_count}
-use Rattle.ipc_devices.specs.Device.{Memory, Rises}
-use Rattle.ipc_devices.specs.Faults.{OnIo, UnlessIo, OwnFault}
+use Rattle.ipc_devices.specs.Device.{Device}
+use Rattle.ipc_devices.specs.Faults.{OwnFault}
 use Rattle.ipc_devices.specs.declared.fault.Fault.{Fault}
 use Rattle.ipc_model.specs.Batches.{kinds, chosen}
 use Rattle.ipc_model.specs.Entries.{Dictionaries, Limit}
@@ -26,10 +26,12 @@ use Rattle.ipc_files.specs.Dictionaries.{DictionariesReason, HoldListed, IsDicti
 use Rattle.ipc_files.specs.Footers.{GivesPart, file_seen}
 use Rattle.ipc_files.specs.declared.read.file.metadata.FileMetadata.{FileMetadata}
 use Rattle.ipc_file_readers.specs.declared.read.reader.state.FileReader.{FileReader}
+use Rattle.ipc_devices.specs.Acts.{ReadsDevice}
 
 -- ---- the state of a reader
 
 -- The device of a reader.
+
 abbrev pub device_of : {R : Type 0} → FileReader R → R
 device_of x = x.reader
 
@@ -155,13 +157,13 @@ HaveKnownValues m asked ds xs = HaveMeaning ds (all_ids_view m.ipc_schema.fields
 
 -- The dictionaries were refused, and there are some. The error is returned once, by the first block
 -- that is refused, and nothing comes after it.
-pub record WereRefused {R : Type 0} (known : Bool) (memory : R → Memory) (a : FileReader R) (e : Fault) (b : FileReader R) : Type 0 where
+pub record WereRefused {R : Type 0} (d : Device R) (a : FileReader R) (e : Fault) (b : FileReader R) : Type 0 where
   pub some : (file_of a).dictionaries ≢ []
   pub unread : known_of a ≡ None
   pub stay_unread : known_of b ≡ None
   pub only : OwnFault e (IsDictionaryBlockFault e)
-  pub meaning : IsTrue known → OwnFault e (file_dictionaries (file_of a) (memory (device_of a)).whole ≡ None)
-  pub reason : IsTrue known → OwnFault e (DictionariesReason (file_of a) (memory (device_of a)).whole [] (file_of a).dictionaries e)
+  pub meaning : IsTrue d.is_memory → OwnFault e (file_dictionaries (file_of a) (d.memory (device_of a)).whole ≡ None)
+  pub reason : IsTrue d.is_memory → OwnFault e (DictionariesReason (file_of a) (d.memory (device_of a)).whole [] (file_of a).dictionaries e)
   pub over : is_over b ≡ true
 
 -- The chunk of the next block was returned, or its error, which says why and leaves the row limit
@@ -169,54 +171,60 @@ pub record WereRefused {R : Type 0} (known : Bool) (memory : R → Memory) (a : 
 -- message. At most so many bytes were read: this message, its prefix, the encoded length of the
 -- requested columns' buffers, and in the first call what the dictionaries need. The arrays retain
 -- at most the encoded length of these buffers, plus one offset for each empty buffer of offsets.
-pub record WasNext {R : Type 0} (known : Bool) (memory : R → Memory) (given : R → ℕ) (a : FileReader R) (r : Result (List AnyArray) Fault) (b : FileReader R) : Type 0 where
+pub record WasNext {R : Type 0} (d : Device R) (a : FileReader R) (r : Result (List AnyArray) Fault) (b : FileReader R) : Type 0 where
   pub dictionaries : Dictionaries
   pub held : known_of b ≡ Some dictionaries
-  pub are : AreKnown known (known_of a) (file_dictionaries (file_of a) (memory (device_of a)).whole) dictionaries
-  pub held_values : HoldValues known (file_of a) (memory (device_of a)).whole (known_of a) (values_of a) (values_of b)
+  pub are : AreKnown d.is_memory (known_of a) (file_dictionaries (file_of a) (d.memory (device_of a)).whole) dictionaries
+  pub held_values : HoldValues d.is_memory (file_of a) (d.memory (device_of a)).whole (known_of a) (values_of a) (values_of b)
   pub block : block_of b ≡ block_of a + 1
   pub remaining : remaining_of b ≡ less (remaining_of a) (rows_given r)
   pub many : IfOk r (λ xs. length xs ≡ length (columns_asked (metadata_of a) (asked_of a)))
   pub only : IfErr r (λ e. OwnFault e (IsRecordFault (kinds (file_of a).schema) (columns_asked (metadata_of a) (asked_of a)) e))
-  pub reason : IsTrue known
-      → IfErr r (λ e. OwnFault e (RecordReason (file_of a) (columns_asked (metadata_of a) (asked_of a)) (memory (device_of a)).whole (slice_get (metadata_of a).blocks.items (block_of a)) e))
-  pub message : IsTrue known
-      → OnOk r (block_metadata (memory (device_of a)).whole (slice_get (metadata_of a).blocks.items (block_of a)) ≡ Some (message_of b))
+  pub reason : IsTrue d.is_memory
+      → IfErr r (λ e. OwnFault e (RecordReason (file_of a) (columns_asked (metadata_of a) (asked_of a)) (d.memory (device_of a)).whole (slice_get (metadata_of a).blocks.items (block_of a)) e))
+  pub message : IsTrue d.is_memory
+      → OnOk r (block_metadata (d.memory (device_of a)).whole (slice_get (metadata_of a).blocks.items (block_of a)) ≡ Some (message_of b))
   pub bytes : (ds : Dictionaries) → known_of a ≡ Some ds
-      → OnOk r (given (device_of b) ≤ given (device_of a) + needed_bytes (kinds (file_of a).schema) (columns_asked (metadata_of a) (asked_of a)) (message_of b))
+      → OnOk r (d.given (device_of b) ≤ d.given (device_of a) + needed_bytes (kinds (file_of a).schema) (columns_asked (metadata_of a) (asked_of a)) (message_of b))
   pub first : known_of a ≡ None
-      → OnOk r ((n : ℕ) × ValuesGiven known (file_of a) (memory (device_of a)).whole (given (device_of a)) n
-      × (given (device_of b) ≤ n + needed_bytes (kinds (file_of a).schema) (columns_asked (metadata_of a) (asked_of a)) (message_of b)))
+      → OnOk r ((n : ℕ) × ValuesGiven d.is_memory (file_of a) (d.memory (device_of a)).whole (d.given (device_of a)) n
+      × (d.given (device_of b) ≤ n + needed_bytes (kinds (file_of a).schema) (columns_asked (metadata_of a) (asked_of a)) (message_of b)))
   pub holds : IfOk r (HoldBatch (file_of a).size (kinds (file_of a).schema) (columns_asked (metadata_of a) (asked_of a)) (message_of b))
-  pub meaning : IsTrue known → (ds : Dictionaries) → KnowAlike dictionaries ds
-      → GivesPart chunk_seen r (file_chunk (file_of a) ds (memory (device_of a)).whole (asked_of a) (remaining_of a) (block_of a))
-  pub values : IsTrue known → IfOk r (HaveKnownValues (metadata_of a) (asked_of a) dictionaries)
+  pub meaning : IsTrue d.is_memory → (ds : Dictionaries) → KnowAlike dictionaries ds
+      → GivesPart chunk_seen r (file_chunk (file_of a) ds (d.memory (device_of a)).whole (asked_of a) (remaining_of a) (block_of a))
+  pub values : IsTrue d.is_memory → IfOk r (HaveKnownValues (metadata_of a) (asked_of a) dictionaries)
 
 -- `next` returned a chunk or an error of the next block, or the error of the dictionaries.
-abbrev pub HasNext : {R : Type 0} → Bool → (R → Memory) → (R → ℕ) → FileReader R → Answer → FileReader R → Type 0
-HasNext known memory given a None b = ⊥
-HasNext known memory given a (Some (Ok xs)) b = WasNext known memory given a (Ok xs) b
-HasNext known memory given a (Some (Err e)) b = WereRefused known memory a e b ⊎ WasNext known memory given a (Err e) b
+abbrev pub HasNext : {R : Type 0} → Device R → FileReader R → Answer → FileReader R → Type 0
+HasNext d a None b = ⊥
+HasNext d a (Some (Ok xs)) b = WasNext d a (Ok xs) b
+HasNext d a (Some (Err e)) b = WereRefused d a e b ⊎ WasNext d a (Err e) b
 
 -- No block was read: the scratch memory and the row limit are as they were. The bytes read are
 -- those that the dictionaries need before the refused one, and those read of that.
-pub record AskedNoBlock {R : Type 0} (known : Bool) (memory : R → Memory) (given : R → ℕ) (a b : FileReader R) : Type 0 where
+pub record AskedNoBlock {R : Type 0} (d : Device R) (a b : FileReader R) : Type 0 where
   pub rooms : scratches_of b ≡ scratches_of a
   pub remaining : remaining_of b ≡ remaining_of a
-  pub bytes : RefusedValues known (file_of a).schema (memory (device_of a)).whole (file_of a).dictionaries (given (device_of a)) (given (device_of b))
+  pub bytes : RefusedValues d.is_memory (file_of a).schema (d.memory (device_of a)).whole (file_of a).dictionaries (d.given (device_of a)) (d.given (device_of b))
 
--- What a call of `next` reads and returns, and the reader after it. A call of the device
--- failed exactly if its error is returned, and the scratch memory for data stays. If no block
--- is left, nothing changes. Until the dictionaries are known, no block is read. So after an
--- error of a block, also of an allocation or of the device, they are known, and the reader is
--- at the block after it (`WasNext`).
-pub record NextStep {R : Type 0} (known still : Bool) (memory : R → Memory) (failures given : R → ℕ) (a : FileReader R) (r : Answer) (b : FileReader R) : Type 0 where
+-- The reader after a call of `next`.
+pub record FileReaderState {R : Type 0} (d : Device R) (a b : FileReader R) : Type 0 where
+  -- The file, the projection and the schema stay.
   pub file : IsOfSameFile a b
-  pub monotone : failures (device_of a) ≤ failures (device_of b)
-  pub failed : OnIo (next_result r) (Rises (failures (device_of a)) (failures (device_of b)))
-  pub told : UnlessIo (next_result r) (failures (device_of b) ≡ failures (device_of a))
-  pub whole : IsTrue still → (memory (device_of b)).whole ≡ (memory (device_of a)).whole
+  -- The scratch memory for data stays.
   pub room : (scratches_of b).0 ≡ (scratches_of a).0
+  -- Until the dictionaries are known, no block is read.
+  pub unread : is_over a ≡ false → known_of b ≡ None → AskedNoBlock d a b
+
+-- What a call of `next` reads and returns, and the reader after it. After an error of a block, also
+-- of an allocation or of the device, the dictionaries are known, and the reader is at the block
+-- after it (`WasNext`).
+pub record NextStep {R : Type 0} (d : Device R) (a : FileReader R) (r : Answer) (b : FileReader R) : Type 0 where
+  -- If no block is left, it returns None, and nothing changes.
   pub over : is_over a ≡ true → (r ≡ None) × (b ≡ a)
-  pub next : is_over a ≡ false → HasNext known memory given a r b
-  pub unread : is_over a ≡ false → known_of b ≡ None → AskedNoBlock known memory given a b
+  -- Otherwise it returns the chunk of the next block, or an error.
+  pub next : is_over a ≡ false → HasNext d a r b
+  -- What became of the device.
+  pub device : ReadsDevice d (device_of a) (next_result r) (device_of b)
+  -- What became of the reader.
+  pub state : FileReaderState d a b

@@ -1,8 +1,8 @@
 -- The rows of a file, as a reader returns them.
 -- (Arrow columnar format, "IPC File Format".)
-use Rattle.std.specs.Prelude.{◌≡◌, ◌++◌, ℕ, ◌+◌, Bool, IsTrue, List, [], ◌∷◌, length, take, None, Some, slice_get, Ok}
+use Rattle.ipc_devices.specs.Device.{Device}
+use Rattle.std.specs.Prelude.{◌≡◌, ◌++◌, ℕ, ◌+◌, IsTrue, List, [], ◌∷◌, length, take, None, Some, slice_get, Ok}
 use Rattle.lower_arrays.specs.Slots.{Slot}
-use Rattle.ipc_devices.specs.Device.{Memory}
 use Rattle.ipc_model.specs.BatchLaws.{column_at}
 use Rattle.ipc_model.specs.Batches.{Chunk}
 use Rattle.ipc_model.specs.Entries.{Dictionaries, Limit}
@@ -34,8 +34,8 @@ pub record Mean (m : Meaning) (ds : Dictionaries) (source : List ℕ) (i : ℕ) 
 
 -- Theorem: if calls returned a chunk for each of some valid blocks, the joined rows of these chunks
 -- are the first rows of the requested columns, up to the limit.
-abbrev pub RowsLaw : {R : Type 0} → Bool → Bool → (R → Memory) → (R → ℕ) → (R → ℕ) → FileReader R → Type 0
-RowsLaw known still memory failures given a = (rs : List Answer) (ds : Dictionaries) (cs gs : List Chunk) → IsTrue known
-    → HoldsDictionaries (known_of a) (file_dictionaries (file_of a) (memory (device_of a)).whole) ds → Calls known still memory failures given a rs
-    → Mean (file_of a) ds (memory (device_of a)).whole (block_of a) cs → AreChunks rs gs → length gs ≡ length cs
+abbrev pub RowsLaw : {R : Type 0} → Device R → FileReader R → Type 0
+RowsLaw d a = (rs : List Answer) (ds : Dictionaries) (cs gs : List Chunk) → IsTrue d.is_memory
+    → HoldsDictionaries (known_of a) (file_dictionaries (file_of a) (d.memory (device_of a)).whole) ds → Calls d a rs
+    → Mean (file_of a) ds (d.memory (device_of a)).whole (block_of a) cs → AreChunks rs gs → length gs ≡ length cs
     → (p j : ℕ) → slice_get (columns_asked (metadata_of a) (asked_of a)) p ≡ Some j → joined gs p ≡ first_of (remaining_of a) (joined cs j)

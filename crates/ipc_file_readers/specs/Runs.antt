@@ -1,7 +1,7 @@
 -- Calls of `next`, one after the other, on a file whose bytes are known.
 -- (Arrow columnar format, "IPC File Format".)
-use Rattle.std.specs.Prelude.{◌≡◌, ◌⊎◌, ℕ, zero, suc, ◌+◌, Bool, true, false, IsTrue, List, [], ◌∷◌, Option, None, Some, Err}
-use Rattle.ipc_devices.specs.Device.{Memory}
+use Rattle.ipc_devices.specs.Device.{Device}
+use Rattle.std.specs.Prelude.{◌≡◌, ◌⊎◌, ℕ, zero, suc, ◌+◌, true, false, IsTrue, List, [], ◌∷◌, Option, None, Some, Err}
 use Rattle.ipc_devices.specs.Faults.{OwnFault}
 use Rattle.ipc_model.specs.Entries.{Dictionaries, Limit}
 use Rattle.ipc_model.specs.Files.{FileMetadata as Meaning, file_dictionaries, file_chunk}
@@ -12,10 +12,10 @@ use Rattle.ipc_file_readers.specs.Readers.{Answer, NextStep, asked_of, block_of,
 use Rattle.ipc_file_readers.specs.declared.read.reader.state.FileReader.{FileReader}
 
 -- The answers of some calls of `next`, one after the other, that begin with this reader.
-abbrev pub Calls : {R : Type 0} → Bool → Bool → (R → Memory) → (R → ℕ) → (R → ℕ) → FileReader R → List Answer → Type 0
-Calls known still memory failures given a [] = Unit {0}
-Calls {R} known still memory failures given a (r ∷ rs) =
-    (b : FileReader R) × NextStep known still memory failures given a r b × Calls known still memory failures given b rs
+abbrev pub Calls : {R : Type 0} → Device R → FileReader R → List Answer → Type 0
+Calls d a [] = Unit {0}
+Calls {R} d a (r ∷ rs) =
+    (b : FileReader R) × NextStep d a r b × Calls d b rs
 
 -- All answers are None.
 abbrev pub AreNone : List Answer → Type 0
@@ -45,17 +45,17 @@ HoldsDictionaries None file ds = file ≡ Some ds
 
 -- Theorem: a file with valid dictionaries is read block by block; or one error of allocation or of
 -- the device is returned at the dictionaries.
-abbrev pub ItemsLaw : {R : Type 0} → Bool → Bool → (R → Memory) → (R → ℕ) → (R → ℕ) → FileReader R → Type 0
-ItemsLaw known still memory failures given a = (rs : List Answer) (ds : Dictionaries) → IsTrue known
-    → HoldsDictionaries (known_of a) (file_dictionaries (file_of a) (memory (device_of a)).whole) ds → Calls known still memory failures given a rs
-    → AreItems (file_of a) ds (memory (device_of a)).whole (asked_of a) (remaining_of a) (block_of a) (blocks_left a) rs ⊎ IsToldOnce ⊥ rs
+abbrev pub ItemsLaw : {R : Type 0} → Device R → FileReader R → Type 0
+ItemsLaw d a = (rs : List Answer) (ds : Dictionaries) → IsTrue d.is_memory
+    → HoldsDictionaries (known_of a) (file_dictionaries (file_of a) (d.memory (device_of a)).whole) ds → Calls d a rs
+    → AreItems (file_of a) ds (d.memory (device_of a)).whole (asked_of a) (remaining_of a) (block_of a) (blocks_left a) rs ⊎ IsToldOnce ⊥ rs
 
 -- Theorem: a file with record blocks and invalid dictionaries returns one error.
-abbrev pub ToldOnceLaw : {R : Type 0} → Bool → Bool → (R → Memory) → (R → ℕ) → (R → ℕ) → FileReader R → Type 0
-ToldOnceLaw known still memory failures given a = (rs : List Answer) → IsTrue known → is_over a ≡ false → known_of a ≡ None
-    → file_dictionaries (file_of a) (memory (device_of a)).whole ≡ None → Calls known still memory failures given a rs
+abbrev pub ToldOnceLaw : {R : Type 0} → Device R → FileReader R → Type 0
+ToldOnceLaw d a = (rs : List Answer) → IsTrue d.is_memory → is_over a ≡ false → known_of a ≡ None
+    → file_dictionaries (file_of a) (d.memory (device_of a)).whole ≡ None → Calls d a rs
     → IsToldOnce (Unit {0}) rs
 
 -- Theorem: after the last block, and in a file without record blocks, `next` returns None.
-abbrev pub OverLaw : {R : Type 0} → Bool → Bool → (R → Memory) → (R → ℕ) → (R → ℕ) → FileReader R → Type 0
-OverLaw known still memory failures given a = (rs : List Answer) → is_over a ≡ true → Calls known still memory failures given a rs → AreNone rs
+abbrev pub OverLaw : {R : Type 0} → Device R → FileReader R → Type 0
+OverLaw d a = (rs : List Answer) → is_over a ≡ true → Calls d a rs → AreNone rs

@@ -2,7 +2,7 @@
 -- (Arrow columnar format, "IPC File Format".)
 use Rattle.std.specs.Prelude.{◌≡◌, ◌≢◌, ℕ, ◌+◌, ◌≤◌, Bool, IsTrue, IfOk, IfErr, OnOk, List, [], length, Option, None, Some, Result, slice_get}
 use Rattle.lower_arrays.specs.declared.array.AnyArray.{AnyArray}
-use Rattle.ipc_devices.specs.Device.{Memory, Rises}
+use Rattle.ipc_devices.specs.Device.{Device, Rises}
 use Rattle.ipc_devices.specs.Faults.{OnIo, UnlessIo, OwnFault}
 use Rattle.ipc_devices.specs.declared.fault.Fault.{Fault}
 use Rattle.ipc_model.specs.Batches.{kinds}
@@ -18,31 +18,32 @@ use Rattle.ipc_file_readers.specs.Readers.{AreKnown, HaveKnownValues, HoldValues
 use Rattle.ipc_file_readers.specs.declared.read.reader.state.FileReader.{FileReader}
 
 -- The device was read: its failures rise exactly if its error is returned, and its bytes stay.
-pub record WasAsked {R X : Type 0} (still : Bool) (memory : R → Memory) (failures : R → ℕ) (a : FileReader R) (r : Result X Fault) (b : FileReader R) : Type 0 where
-  pub monotone : failures (device_of a) ≤ failures (device_of b)
-  pub failed : OnIo r (Rises (failures (device_of a)) (failures (device_of b)))
-  pub told : UnlessIo r (failures (device_of b) ≡ failures (device_of a))
-  pub whole : IsTrue still → (memory (device_of b)).whole ≡ (memory (device_of a)).whole
+pub record WasAsked {R X : Type 0} (d : Device R) (a : FileReader R) (r : Result X Fault) (b : FileReader R) : Type 0 where
+  pub monotone : d.failures (device_of a) ≤ d.failures (device_of b)
+  pub failed : OnIo r (Rises (d.failures (device_of a)) (d.failures (device_of b)))
+  pub told : UnlessIo r (d.failures (device_of b) ≡ d.failures (device_of a))
+  pub whole : IsTrue d.is_read_only → (d.memory (device_of b)).whole ≡ (d.memory (device_of a)).whole
+  pub names : d.names (device_of b) ≡ d.names (device_of a)
 
 -- The dictionaries are known; or they were refused, also by an allocation or the device, and the
 -- reader differs in its device alone.
-pub record DictionariesGave {R : Type 0} (known still : Bool) (memory : R → Memory) (failures given : R → ℕ) (a : FileReader R) (r : Result Unit Fault) (b : FileReader R) : Type 0 where
+pub record DictionariesGave {R : Type 0} (d : Device R) (a : FileReader R) (r : Result Unit Fault) (b : FileReader R) : Type 0 where
   pub file : IsOfSameFile a b
   pub block : block_of b ≡ block_of a
   pub remaining : remaining_of b ≡ remaining_of a
   pub rooms : scratches_of b ≡ scratches_of a
-  pub asked : WasAsked still memory failures a r b
+  pub asked : WasAsked d a r b
   pub are : IfOk r (λ _. (ds : Dictionaries) × (known_of b ≡ Some ds)
-      × AreKnown known (known_of a) (file_dictionaries (file_of a) (memory (device_of a)).whole) ds)
-  pub holds : IfOk r (λ _. HoldValues known (file_of a) (memory (device_of a)).whole (known_of a) (values_of a) (values_of b))
+      × AreKnown d.is_memory (known_of a) (file_dictionaries (file_of a) (d.memory (device_of a)).whole) ds)
+  pub holds : IfOk r (λ _. HoldValues d.is_memory (file_of a) (d.memory (device_of a)).whole (known_of a) (values_of a) (values_of b))
   pub left_alone : (ds : Dictionaries) → known_of a ≡ Some ds → device_of b ≡ device_of a
-  pub bytes : known_of a ≡ None → ValuesTaken known (file_of a) (memory (device_of a)).whole r (given (device_of a)) (given (device_of b))
+  pub bytes : known_of a ≡ None → ValuesTaken d.is_memory (file_of a) (d.memory (device_of a)).whole r (d.given (device_of a)) (d.given (device_of b))
   pub some : IfErr r (λ e. (file_of a).dictionaries ≢ [])
   pub unread : IfErr r (λ e. known_of a ≡ None)
   pub stay_unread : IfErr r (λ e. known_of b ≡ None)
   pub only : IfErr r (λ e. OwnFault e (IsDictionaryBlockFault e))
-  pub refused : IsTrue known → IfErr r (λ e. OwnFault e (file_dictionaries (file_of a) (memory (device_of a)).whole ≡ None))
-  pub reason : IsTrue known → IfErr r (λ e. OwnFault e (DictionariesReason (file_of a) (memory (device_of a)).whole [] (file_of a).dictionaries e))
+  pub refused : IsTrue d.is_memory → IfErr r (λ e. OwnFault e (file_dictionaries (file_of a) (d.memory (device_of a)).whole ≡ None))
+  pub reason : IsTrue d.is_memory → IfErr r (λ e. OwnFault e (DictionariesReason (file_of a) (d.memory (device_of a)).whole [] (file_of a).dictionaries e))
 
 -- The chunk of block i was returned, by the dictionaries that are known, or its error. The message
 -- that was read has this metadata.
@@ -58,27 +59,27 @@ pub record WasChunk (known : Bool) (m : FileMetadata) (asked : Option (List ℕ)
   pub values : IsTrue known → IfOk r (HaveKnownValues m asked ds)
 
 -- The chunk of block i was returned, or its error.
-pub record BlockGave {R : Type 0} (known still : Bool) (memory : R → Memory) (failures given : R → ℕ) (i : ℕ) (a : FileReader R) (r : Result (List AnyArray) Fault) (b : FileReader R) : Type 0 where
+pub record BlockGave {R : Type 0} (d : Device R) (i : ℕ) (a : FileReader R) (r : Result (List AnyArray) Fault) (b : FileReader R) : Type 0 where
   pub file : IsOfSameFile a b
   pub block : block_of b ≡ block_of a
   pub remaining : remaining_of b ≡ remaining_of a
   pub held : known_of b ≡ known_of a
   pub values : values_of b ≡ values_of a
   pub room : (scratches_of b).0 ≡ (scratches_of a).0
-  pub asked : WasAsked still memory failures a r b
+  pub asked : WasAsked d a r b
   pub chunk : (ds : Dictionaries) → known_of a ≡ Some ds
-      → WasChunk known (metadata_of a) (asked_of a) (remaining_of a) i ds (memory (device_of a)).whole (given (device_of a)) (given (device_of b)) (message_of b) r
+      → WasChunk d.is_memory (metadata_of a) (asked_of a) (remaining_of a) i ds (d.memory (device_of a)).whole (d.given (device_of a)) (d.given (device_of b)) (message_of b) r
 
 -- The chunk of the next block was returned, or its error, and the reader is at the block after
 -- it. After an error, also of an allocation or of the device, the dictionaries are known as
 -- before, and the limit is as it was.
-pub record NextGave {R : Type 0} (known still : Bool) (memory : R → Memory) (failures given : R → ℕ) (a : FileReader R) (r : Result (List AnyArray) Fault) (b : FileReader R) : Type 0 where
+pub record NextGave {R : Type 0} (d : Device R) (a : FileReader R) (r : Result (List AnyArray) Fault) (b : FileReader R) : Type 0 where
   pub file : IsOfSameFile a b
   pub block : block_of b ≡ block_of a + 1
   pub remaining : remaining_of b ≡ less (remaining_of a) (rows_given r)
   pub held : known_of b ≡ known_of a
   pub values : values_of b ≡ values_of a
   pub room : (scratches_of b).0 ≡ (scratches_of a).0
-  pub asked : WasAsked still memory failures a r b
+  pub asked : WasAsked d a r b
   pub chunk : (ds : Dictionaries) → known_of a ≡ Some ds
-      → WasChunk known (metadata_of a) (asked_of a) (remaining_of a) (block_of a) ds (memory (device_of a)).whole (given (device_of a)) (given (device_of b)) (message_of b) r
+      → WasChunk d.is_memory (metadata_of a) (asked_of a) (remaining_of a) (block_of a) ds (d.memory (device_of a)).whole (d.given (device_of a)) (d.given (device_of b)) (message_of b) r

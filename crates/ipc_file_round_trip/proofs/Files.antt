@@ -20,7 +20,7 @@ use Rattle.ipc_readers.proofs.OfMemory.{no_failure}
 use Rattle.ipc_files.specs.Files.{FileReason}
 use Rattle.ipc_files.specs.Footers.{GivesPart, file_seen, optional_blocks}
 use Rattle.ipc_files.specs.declared.read.file.metadata.FileMetadata.{FileMetadata}
-use Rattle.ipc_file_round_trip.specs.Reading.{ChunksReason, HasFirstRows, IsUnreadable, NamesOthers, ReadingReason, ReadsColumns, chunks_of, file_by, file_chunks, file_read}
+use Rattle.ipc_file_round_trip.specs.Reading.{FileChunksCause, HasFirstRows, IsUnreadable, NamesOthers, ReadingCause, ReadsColumns, chunks_of, file_by, file_chunks, file_read}
 use Rattle.ipc_file_round_trip.specs.declared.read.WholeFile.{WholeFile}
 
 -- ---- what is read
@@ -116,15 +116,15 @@ no_device (Err e) h = no_failure FileMetadata FileMetadata e h
 
 module _ (p : Option (List ℕ)) (limit : Limit) (bytes : List ℕ) where
   abbrev By : Fault → Option Meaning → Type 0
-  By e o = MatchOption o (FileReason 0 bytes e) (λ m. ChunksReason m bytes p limit e)
+  By e o = MatchOption o (FileReason 0 bytes e) (λ m. FileChunksCause m bytes p limit e)
 
-  pub metadata_reason : (e : Fault) → OwnFault e (metadata_of bytes ≡ None) → OwnFault e (FileReason 0 bytes e) → OwnFault e (ReadingReason p limit bytes e)
+  pub metadata_reason : (e : Fault) → OwnFault e (metadata_of bytes ≡ None) → OwnFault e (FileReason 0 bytes e) → OwnFault e (ReadingCause p limit bytes e)
   metadata_reason e none why = claims_own e _ _ (λ is. claims_through e _ _ (λ w. subst (By e) (sym is) w) why) none
 
-  pub chunks_reason : (m : Meaning) (e : Fault) → metadata_of bytes ≡ Some m → OwnFault e (ChunksReason m bytes p limit e) → OwnFault e (ReadingReason p limit bytes e)
+  pub chunks_reason : (m : Meaning) (e : Fault) → metadata_of bytes ≡ Some m → OwnFault e (FileChunksCause m bytes p limit e) → OwnFault e (ReadingCause p limit bytes e)
   chunks_reason m e there why = claims_through e _ _ (λ w. subst (By e) (sym there) w) why
 
-  pub answer_reason : (m : Meaning) (r : Result WholeFile Fault) → metadata_of bytes ≡ Some m → IfErr r (λ e. OwnFault e (ChunksReason m bytes p limit e))
-      → IfErr r (λ e. OwnFault e (ReadingReason p limit bytes e))
+  pub answer_reason : (m : Meaning) (r : Result WholeFile Fault) → metadata_of bytes ≡ Some m → IfErr r (λ e. OwnFault e (FileChunksCause m bytes p limit e))
+      → IfErr r (λ e. OwnFault e (ReadingCause p limit bytes e))
   answer_reason m (Ok f) there why = tt
   answer_reason m (Err e) there why = chunks_reason m e there why

@@ -1,11 +1,11 @@
 -- What a file reader returned, from the first block on, is what the file means.
-use Rattle.std.proofs.Common.{◌≡◌, ℕ, ◌+◌, ◌<◌, ◌≤◌, List, [], ◌∷◌, ◌++◌, map, length, drop, Bool, true, false, IsTrue, nat_le, Option, None, Some, Err, refl, sym, ap, ◌∙◌, subst, arith, inl, inr}
+use Rattle.std.proofs.Common.{◌≡◌, ℕ, ◌+◌, ◌<◌, ◌≤◌, List, [], ◌∷◌, ◌++◌, map, length, drop, true, false, IsTrue, nat_le, Option, None, Some, Err, refl, sym, ap, ◌∙◌, subst, arith, inl, inr}
 use Rattle.std.specs.Option.{option_map}
 use Rattle.std.specs.Prelude.{slice_get, vec_len}
 use Rattle.lower_arrays.specs.declared.array.AnyArray.{AnyArray}
 use Rattle.ipc_devices.proofs.Claims.{claims_through}
 use Rattle.ipc_base.specs.IdTrees.{all_ids_view}
-use Rattle.ipc_devices.specs.Device.{Memory}
+use Rattle.ipc_devices.specs.Device.{Device}
 use Rattle.ipc_devices.specs.Faults.{OwnFault}
 use Rattle.ipc_devices.specs.declared.fault.Fault.{Fault}
 use Rattle.ipc_table_views.specs.declared.file.Block.{Block}
@@ -26,7 +26,7 @@ use Rattle.ipc_file_readers.specs.declared.read.reader.state.FileReader.{FileRea
 use Rattle.ipc_file_round_trip.proofs.Blocks.{all_items, as_many, block_of_each, some_items}
 use Rattle.ipc_file_round_trip.proofs.Pushes.{calls_front}
 use Rattle.ipc_file_round_trip.specs.Reading.{HasFirstRows, chunks_by, chunks_seen, dictionaries_for, file_chunks, rows_of}
-use Rattle.ipc_file_round_trip.specs.Steps.{GivesThenFails, GivesAll, RefusesBlocks, answers_of}
+use Rattle.ipc_file_round_trip.specs.Steps.{GivesThenFails, GivesAll, ReadBlocksCause, answers_of}
 
 -- ---- no block is left
 
@@ -87,13 +87,13 @@ long_in m ds source p limit (b ∷ bs) cs gs file means e =
     let there : chunks_by m ds source p limit (b ∷ bs) ≡ Some gs = sym (ap (λ (o : Option Dictionaries). given_then o (λ es. chunks_by m es source p limit (b ∷ bs))) file) ∙ e in
     chunks_long m ds source p limit (b ∷ bs) gs there ∙ as_many m ds source (b ∷ bs) cs means
 
-module _ {R : Type 0} (known still : Bool) (memory : R → Memory) (failures given : R → ℕ) (stays : IsTrue known → IsTrue still) (a : FileReader R)
-    (k : IsTrue known) (unread : known_of a ≡ None) (first : block_of a ≡ 0) where
+module _ {R : Type 0} (d : Device R) (stays : IsTrue d.is_memory → IsTrue d.is_read_only) (a : FileReader R)
+    (k : IsTrue d.is_memory) (unread : known_of a ≡ None) (first : block_of a ≡ 0) where
   abbrev source_of : List ℕ
-  source_of = (memory (device_of a)).whole
+  source_of = (d.memory (device_of a)).whole
 
   abbrev Run : List Answer → Type 0
-  Run rs = Calls known still memory failures given a rs
+  Run rs = Calls d a rs
 
   -- The answers if all chunks were returned, and if an error was.
   abbrev Whole : List (List AnyArray) → List Answer
@@ -123,36 +123,36 @@ module _ {R : Type 0} (known still : Bool) (memory : R → Memory) (failures giv
   -- All chunks were returned.
   given_by : (b : Block) (bs : List Block) (o : Option Dictionaries) (xs : List (List AnyArray)) → (file_of a).blocks ≡ b ∷ bs → file_dictionaries (file_of a) source_of ≡ o
       → Run (Whole xs) → given_then o (In (b ∷ bs)) ≡ Some (chunks_seen xs)
-  given_by b bs None xs e file h = absurd (told_given (Unit {0}) xs (told_once_law known still memory failures given stays a (Whole xs) k (more b bs e) unread file h))
-  given_by b bs (Some ds) xs e file h = elim (items_law known still memory failures given stays a (Whole xs) ds k (holds ds file) h) [
+  given_by b bs None xs e file h = absurd (told_given (Unit {0}) xs (told_once_law d stays a (Whole xs) k (more b bs e) unread file h))
+  given_by b bs (Some ds) xs e file h = elim (items_law d stays a (Whole xs) ds k (holds ds file) h) [
     | inl items ↦ all_items (file_of a) ds source_of (asked_of a) (b ∷ bs) (blocks_left a) (block_of a) (remaining_of a) xs (from_first (b ∷ bs) e) (left_is (b ∷ bs) e) items
     | inr told ↦ absurd (told_given ⊥ xs told)
   ]
 
   given_in : (bs : List Block) (xs : List (List AnyArray)) → (file_of a).blocks ≡ bs → Run (Whole xs)
       → given_then (dictionaries_for bs (file_of a) source_of) (In bs) ≡ Some (chunks_seen xs)
-  given_in [] xs e h = let nothing = none_given xs (over_law known still memory failures given stays a (Whole xs) (over e) h) in ap (λ (ys : List (List AnyArray)). Some (chunks_seen ys)) (sym nothing)
+  given_in [] xs e h = let nothing = none_given xs (over_law d stays a (Whole xs) (over e) h) in ap (λ (ys : List (List AnyArray)). Some (chunks_seen ys)) (sym nothing)
   given_in (b ∷ bs) xs e h = given_by b bs _ xs e refl h
 
-  pub all_chunks : (xs : List (List AnyArray)) → GivesAll known still memory failures given a xs → file_chunks (file_of a) source_of (asked_of a) (remaining_of a) ≡ Some (chunks_seen xs)
+  pub all_chunks : (xs : List (List AnyArray)) → GivesAll d a xs → file_chunks (file_of a) source_of (asked_of a) (remaining_of a) ≡ Some (chunks_seen xs)
   all_chunks xs h = given_in (file_of a).blocks xs refl h.calls
 
   -- An error was returned.
   broken_by : (b : Block) (bs : List Block) (o : Option Dictionaries) (xs : List (List AnyArray)) (e : Fault) → (file_of a).blocks ≡ b ∷ bs → file_dictionaries (file_of a) source_of ≡ o
       → Run (Broken xs e) → OwnFault e (given_then o (In (b ∷ bs)) ≡ None)
   broken_by b bs None xs e at file h =
-      claims_through e _ _ (λ _. refl) (told_broken (Unit {0}) xs e (told_once_law known still memory failures given stays a (Broken xs e) k (more b bs at) unread file h))
-  broken_by b bs (Some ds) xs e at file h = elim (items_law known still memory failures given stays a (Broken xs e) ds k (holds ds file) h) [
+      claims_through e _ _ (λ _. refl) (told_broken (Unit {0}) xs e (told_once_law d stays a (Broken xs e) k (more b bs at) unread file h))
+  broken_by b bs (Some ds) xs e at file h = elim (items_law d stays a (Broken xs e) ds k (holds ds file) h) [
     | inl items ↦ some_items (file_of a) ds source_of (asked_of a) (b ∷ bs) (blocks_left a) (block_of a) (remaining_of a) xs e (from_first (b ∷ bs) at) (left_is (b ∷ bs) at) items
     | inr told ↦ claims_through e ⊥ _ (λ no. absurd no) (told_broken ⊥ xs e told)
   ]
 
   broken_in : (bs : List Block) (xs : List (List AnyArray)) (e : Fault) → (file_of a).blocks ≡ bs → Run (Broken xs e)
       → OwnFault e (given_then (dictionaries_for bs (file_of a) source_of) (In bs) ≡ None)
-  broken_in [] xs e at h = absurd (none_broken xs e (over_law known still memory failures given stays a (Broken xs e) (over at) h))
+  broken_in [] xs e at h = absurd (none_broken xs e (over_law d stays a (Broken xs e) (over at) h))
   broken_in (b ∷ bs) xs e at h = broken_by b bs _ xs e at refl h
 
-  pub no_chunks : (e : Fault) → GivesThenFails known still memory failures given a e → OwnFault e (file_chunks (file_of a) source_of (asked_of a) (remaining_of a) ≡ None)
+  pub no_chunks : (e : Fault) → GivesThenFails d a e → OwnFault e (file_chunks (file_of a) source_of (asked_of a) (remaining_of a) ≡ None)
   no_chunks e h = broken_in (file_of a).blocks h.chunks e refl h.calls
 
   -- ---- the rows
@@ -162,10 +162,10 @@ module _ {R : Type 0} (known still : Bool) (memory : R → Memory) (failures giv
 
   -- A chunk was returned for each that the file has.
   as_long : (ds : Dictionaries) (cs : List Chunk) (xs : List (List AnyArray)) → file_dictionaries (file_of a) source_of ≡ Some ds
-      → chunks_at (file_of a) ds (all_of source_of) None None (file_of a).blocks ≡ map Some cs → GivesAll known still memory failures given a xs → length (chunks_seen xs) ≡ length cs
+      → chunks_at (file_of a) ds (all_of source_of) None None (file_of a).blocks ≡ map Some cs → GivesAll d a xs → length (chunks_seen xs) ≡ length cs
   as_long ds cs xs file means h = long_in (file_of a) ds source_of (asked_of a) (remaining_of a) (file_of a).blocks cs (chunks_seen xs) file means (all_chunks xs h)
 
-  pub all_rows : (xs : List (List AnyArray)) → GivesAll known still memory failures given a xs → HasFirstRows (file_of a) source_of (asked_of a) (remaining_of a) (chunks_seen xs)
+  pub all_rows : (xs : List (List AnyArray)) → GivesAll d a xs → HasFirstRows (file_of a) source_of (asked_of a) (remaining_of a) (chunks_seen xs)
   all_rows xs h = record {
     rows = λ ds cs file means q j at.
         let m = metadata_of a in
@@ -174,7 +174,7 @@ module _ {R : Type 0} (known still : Bool) (memory : R → Memory) (failures giv
         let each : Mean (file_of a) ds source_of (block_of a) cs = record {
           each = λ i c here. ap (file_chunk (file_of a) ds source_of None None) (from_i i) ∙ block_of_each (file_of a) ds source_of (file_of a).blocks cs i c means here;
         } in
-        rows_law known still memory failures given stays a (answers_of xs) ds cs (chunks_seen xs) k (holds ds file) (calls_front known still memory failures given (answers_of xs) (None ∷ []) a h.calls) each
+        rows_law d stays a (answers_of xs) ds cs (chunks_seen xs) k (holds ds file) (calls_front d (answers_of xs) (None ∷ []) a h.calls) each
         (are_chunks xs) (as_long ds cs xs file means h) q j column;
   }
 
@@ -184,23 +184,23 @@ pub moved : (P : Meaning → List ℕ → Option (List ℕ) → Limit → Type 0
 moved P m n xs ys p q l k e f g h x =
     subst (λ (v : Meaning). P v ys q k) e (subst (λ (v : List ℕ). P m v q k) f (subst (λ (v : Option (List ℕ)). P m xs v k) g (subst (λ (v : Limit). P m xs p v) h x)))
 
-module _ {R : Type 0} (known still : Bool) (memory : R → Memory) (failures given : R → ℕ) (stays : IsTrue known → IsTrue still) (k : IsTrue known) (a : FileReader R) (device : R)
-    (m : FileMetadata) (p : Option (List ℕ)) (limit : Limit) (source : List ℕ) (begins : IsUnread device m p limit a) (whole : (memory device).whole ≡ source) where
-  to_source : (memory (device_of a)).whole ≡ source
-  to_source = ap (λ (d : R). (memory d).whole) begins.device ∙ whole
+module _ {R : Type 0} (d : Device R) (stays : IsTrue d.is_memory → IsTrue d.is_read_only) (k : IsTrue d.is_memory) (a : FileReader R) (device : R)
+    (m : FileMetadata) (p : Option (List ℕ)) (limit : Limit) (source : List ℕ) (begins : IsUnread device m p limit a) (whole : (d.memory device).whole ≡ source) where
+  to_source : (d.memory (device_of a)).whole ≡ source
+  to_source = ap (λ (x : R). (d.memory x).whole) begins.device ∙ whole
 
-  pub as_asked : (P : Meaning → List ℕ → Option (List ℕ) → Limit → Type 0) → P (file_of a) (memory (device_of a)).whole (asked_of a) (remaining_of a) → P (file_seen m) source p limit
-  as_asked P = moved P (file_of a) (file_seen m) (memory (device_of a)).whole source (asked_of a) p (remaining_of a) limit (ap file_seen begins.described) to_source begins.asked_for begins.remaining
+  pub as_asked : (P : Meaning → List ℕ → Option (List ℕ) → Limit → Type 0) → P (file_of a) (d.memory (device_of a)).whole (asked_of a) (remaining_of a) → P (file_seen m) source p limit
+  as_asked P = moved P (file_of a) (file_seen m) (d.memory (device_of a)).whole source (asked_of a) p (remaining_of a) limit (ap file_seen begins.described) to_source begins.asked_for begins.remaining
 
-  pub chunks_read : (xs : List (List AnyArray)) → GivesAll known still memory failures given a xs → file_chunks (file_seen m) source p limit ≡ Some (chunks_seen xs)
+  pub chunks_read : (xs : List (List AnyArray)) → GivesAll d a xs → file_chunks (file_seen m) source p limit ≡ Some (chunks_seen xs)
   chunks_read xs h =
-      as_asked (λ n s q l. file_chunks n s q l ≡ Some (chunks_seen xs)) (all_chunks known still memory failures given stays a k begins.unread begins.block xs h)
+      as_asked (λ n s q l. file_chunks n s q l ≡ Some (chunks_seen xs)) (all_chunks d stays a k begins.unread begins.block xs h)
 
-  pub rows_read : (xs : List (List AnyArray)) → GivesAll known still memory failures given a xs → HasFirstRows (file_seen m) source p limit (chunks_seen xs)
-  rows_read xs h = as_asked (λ n s q l. HasFirstRows n s q l (chunks_seen xs)) (all_rows known still memory failures given stays a k begins.unread begins.block xs h)
+  pub rows_read : (xs : List (List AnyArray)) → GivesAll d a xs → HasFirstRows (file_seen m) source p limit (chunks_seen xs)
+  rows_read xs h = as_asked (λ n s q l. HasFirstRows n s q l (chunks_seen xs)) (all_rows d stays a k begins.unread begins.block xs h)
 
-  pub chunks_refused : (e : Fault) → RefusesBlocks known still memory failures given a e → OwnFault e (file_chunks (file_seen m) source p limit ≡ None)
+  pub chunks_refused : (e : Fault) → ReadBlocksCause d a e → OwnFault e (file_chunks (file_seen m) source p limit ≡ None)
   chunks_refused e h = elim h [
     | inl is ↦ subst (λ (x : Fault). OwnFault x (file_chunks (file_seen m) source p limit ≡ None)) (sym is) tt
-    | inr off ↦ as_asked (λ n s q l. OwnFault e (file_chunks n s q l ≡ None)) (no_chunks known still memory failures given stays a k begins.unread begins.block e off)
+    | inr off ↦ as_asked (λ n s q l. OwnFault e (file_chunks n s q l ≡ None)) (no_chunks d stays a k begins.unread begins.block e off)
   ]

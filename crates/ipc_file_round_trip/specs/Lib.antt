@@ -1,3 +1,4 @@
+pub mod Api
 pub mod Laws
 pub mod Reading
 pub mod RoundTrip

@@ -64,20 +64,20 @@ all_pruned p limit (c ∷ cs) = pruned p limit c ∷ all_pruned p (less limit (r
 
 -- Why the chunks of some blocks aren't read: the first block that has none, by what
 -- those before it leave of the limit.
-abbrev pub BlocksReason : Meaning → Dictionaries → List ℕ → Option (List ℕ) → Limit → List Block → Fault → Type 0
-BlocksReason m ds source p limit [] e = ⊥
-BlocksReason m ds source p limit (b ∷ bs) e =
+abbrev pub BlocksCause : Meaning → Dictionaries → List ℕ → Option (List ℕ) → Limit → List Block → Fault → Type 0
+BlocksCause m ds source p limit [] e = ⊥
+BlocksCause m ds source p limit (b ∷ bs) e =
     MatchOption (chunk_at m ds source b p limit) (RecordReason m (chosen p (count (kinds m.schema))) source (Some b) e)
-    (λ c. BlocksReason m ds source p (less limit (rows_of c)) bs e)
+    (λ c. BlocksCause m ds source p (less limit (rows_of c)) bs e)
 
 -- Why the chunks of a file aren't read: its dictionaries or one of its blocks have no meaning.
-abbrev pub ChunksReason : Meaning → List ℕ → Option (List ℕ) → Limit → Fault → Type 0
-ChunksReason m source p limit e =
-    MatchOption (dictionaries_for m.blocks m source) (DictionariesReason m source [] m.dictionaries e) (λ ds. BlocksReason m ds source p limit m.blocks e)
+abbrev pub FileChunksCause : Meaning → List ℕ → Option (List ℕ) → Limit → Fault → Type 0
+FileChunksCause m source p limit e =
+    MatchOption (dictionaries_for m.blocks m source) (DictionariesReason m source [] m.dictionaries e) (λ ds. BlocksCause m ds source p limit m.blocks e)
 
 -- Why a file isn't read: its metadata or its chunks have no meaning.
-abbrev pub ReadingReason : Option (List ℕ) → Limit → List ℕ → Fault → Type 0
-ReadingReason p limit bytes e = MatchOption (metadata_of bytes) (FileReason 0 bytes e) (λ m. ChunksReason m bytes p limit e)
+abbrev pub ReadingCause : Option (List ℕ) → Limit → List ℕ → Fault → Type 0
+ReadingCause p limit bytes e = MatchOption (metadata_of bytes) (FileReason 0 bytes e) (λ m. FileChunksCause m bytes p limit e)
 
 -- ---- what was read
 

@@ -1,9 +1,8 @@
 -- What calls of `next` returned, one after the other, until None or an error came.
 -- (Arrow columnar format, "IPC File Format".)
-use Rattle.std.specs.Prelude.{◌≡◌, ◌⊎◌, ℕ, ◌≤◌, Bool, true, false, List, [], ◌∷◌, ◌++◌, map, None, Some, Result, Ok, Err}
+use Rattle.std.specs.Prelude.{◌≡◌, ◌⊎◌, ◌≤◌, Bool, true, false, List, [], ◌∷◌, ◌++◌, map, None, Some, Result, Ok, Err}
 use Rattle.lower_arrays.specs.declared.array.AnyArray.{AnyArray}
-use Rattle.ipc_devices.specs.Device as devices
-use Rattle.ipc_devices.specs.Device.{Rises}
+use Rattle.ipc_devices.specs.Device.{Device, Rises}
 use Rattle.ipc_devices.specs.Faults.{OnIo}
 use Rattle.ipc_devices.specs.declared.fault.Fault.{Fault}
 use Rattle.ipc_devices.specs.declared.fault.Fault.TheVariants.{Memory}
@@ -16,27 +15,27 @@ abbrev pub answers_of : List (List AnyArray) → List Answer
 answers_of xs = map (λ x. Some (Ok x)) xs
 
 -- A call returned one more chunk, or None, or an error; or an allocation for the chunk failed.
-abbrev pub GivesPush : {R : Type 0} → (known still : Bool) (memory : R → devices.Memory) (failures given : R → ℕ) → FileReader R → List (List AnyArray) → Result Bool Fault → FileReader R → List (List AnyArray) → Type 0
-GivesPush known still memory failures given a xs (Ok true) b ys = (x : List AnyArray) × (ys ≡ xs ++ x ∷ []) × NextStep known still memory failures given a (Some (Ok x)) b
-GivesPush known still memory failures given a xs (Ok false) b ys = (ys ≡ xs) × NextStep known still memory failures given a None b
-GivesPush known still memory failures given a xs (Err e) b ys = (e ≡ Memory) ⊎ NextStep known still memory failures given a (Some (Err e)) b
+abbrev pub GivesPush : {R : Type 0} → (d : Device R) → FileReader R → List (List AnyArray) → Result Bool Fault → FileReader R → List (List AnyArray) → Type 0
+GivesPush d a xs (Ok true) b ys = (x : List AnyArray) × (ys ≡ xs ++ x ∷ []) × NextStep d a (Some (Ok x)) b
+GivesPush d a xs (Ok false) b ys = (ys ≡ xs) × NextStep d a None b
+GivesPush d a xs (Err e) b ys = (e ≡ Memory) ⊎ NextStep d a (Some (Err e)) b
 
 -- A call of `next` returned one more chunk, None, or an error. The device's failures rise if its
 -- error is returned, and never fall.
-pub record PushesNext {R : Type 0} (known still : Bool) (memory : R → devices.Memory) (failures given : R → ℕ) (a : FileReader R) (xs : List (List AnyArray)) (r : Result Bool Fault) (b : FileReader R) (ys : List (List AnyArray)) : Type 0 where
-  pub push : GivesPush known still memory failures given a xs r b ys
-  pub failed : OnIo r (Rises (failures (device_of a)) (failures (device_of b)))
-  pub monotone : failures (device_of a) ≤ failures (device_of b)
+pub record PushesNext {R : Type 0} (d : Device R) (a : FileReader R) (xs : List (List AnyArray)) (r : Result Bool Fault) (b : FileReader R) (ys : List (List AnyArray)) : Type 0 where
+  pub push : GivesPush d a xs r b ys
+  pub failed : OnIo r (Rises (d.failures (device_of a)) (d.failures (device_of b)))
+  pub monotone : d.failures (device_of a) ≤ d.failures (device_of b)
 
 -- Calls returned these chunks, and then None.
-pub record GivesAll {R : Type 0} (known still : Bool) (memory : R → devices.Memory) (failures given : R → ℕ) (a : FileReader R) (xs : List (List AnyArray)) : Type 0 where
-  pub calls : Calls known still memory failures given a (answers_of xs ++ None ∷ [])
+pub record GivesAll {R : Type 0} (d : Device R) (a : FileReader R) (xs : List (List AnyArray)) : Type 0 where
+  pub calls : Calls d a (answers_of xs ++ None ∷ [])
 
 -- Calls returned some chunks, and then an error.
-pub record GivesThenFails {R : Type 0} (known still : Bool) (memory : R → devices.Memory) (failures given : R → ℕ) (a : FileReader R) (e : Fault) : Type 0 where
+pub record GivesThenFails {R : Type 0} (d : Device R) (a : FileReader R) (e : Fault) : Type 0 where
   pub chunks : List (List AnyArray)
-  pub calls : Calls known still memory failures given a (answers_of chunks ++ Some (Err e) ∷ [])
+  pub calls : Calls d a (answers_of chunks ++ Some (Err e) ∷ [])
 
 -- Why not all chunks were read: a call returned this error, or an allocation failed.
-abbrev pub RefusesBlocks : {R : Type 0} → (known still : Bool) (memory : R → devices.Memory) (failures given : R → ℕ) → FileReader R → Fault → Type 0
-RefusesBlocks known still memory failures given a e = (e ≡ Memory) ⊎ GivesThenFails known still memory failures given a e
+abbrev pub ReadBlocksCause : {R : Type 0} → (d : Device R) → FileReader R → Fault → Type 0
+ReadBlocksCause d a e = (e ≡ Memory) ⊎ GivesThenFails d a e

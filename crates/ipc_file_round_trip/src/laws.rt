@@ -1,5 +1,6 @@
 //! Theorems on files that are read.
-ghost use Rattle.ipc_file_round_trip.specs.Laws.{AgreeingAnswersLaw, AgreeingChunksLaw, AgreeingFilesLaw, BatchesLaw, ChosenLaw, ReadableStreamLaw, StreamLaw, WholeFileLaw, WrittenLaw};
+ghost use Rattle.ipc_file_round_trip.specs.Api.{FilesAreStreams};
+ghost use Rattle.ipc_file_round_trip.specs.Laws.{AgreeingAnswersLaw, AgreeingChunksLaw, AgreeingFilesLaw, BatchesLaw, ChosenLaw, WholeFileLaw, WrittenLaw};
 
 /// Reading a written file gives its schema, its ids, its pairs and its chunks.
 ///
@@ -11,8 +12,7 @@ pub fn files_read_back()
     ensures chosen { ChosenLaw }
     ensures written { WrittenLaw }
     ensures batches { BatchesLaw }
-    ensures stream { StreamLaw }
-    ensures readable { ReadableStreamLaw }
+    ensures stream { FilesAreStreams }
 {}
 
 /// A block's chunk depends only on its message and the requested columns' buffers.

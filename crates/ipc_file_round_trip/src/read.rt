@@ -8,8 +8,9 @@ ghost use Rattle.ipc_files.specs.Files.{FileReason};
 ghost use Rattle.ipc_files.specs.Footers.{GivesPart, file_seen};
 ghost use Rattle.ipc_projection.specs.ChosenColumns.{items_of};
 ghost use Rattle.ipc_file_readers.specs.Readers.{device_of};
-ghost use Rattle.ipc_file_round_trip.specs.Reading.{ChunksReason, HasFirstRows, HaveFirstRows, ReadingReason, ReadsColumns, chunks_of, file_by, file_chunks, file_read};
-ghost use Rattle.ipc_file_round_trip.specs.Steps.{GivesAll, PushesNext, RefusesBlocks};
+ghost use Rattle.ipc_file_round_trip.specs.Api.{ReadsFileColumns};
+ghost use Rattle.ipc_file_round_trip.specs.Reading.{FileChunksCause, HasFirstRows, ReadingCause, chunks_of, file_by, file_chunks, file_read};
+ghost use Rattle.ipc_file_round_trip.specs.Steps.{GivesAll, PushesNext, ReadBlocksCause};
 
 use ipc_base::chunk::Chunk;
 use ipc_devices::{Fault, MemFile, Reads, Seeks};
@@ -34,7 +35,8 @@ fn push_next<R: Reads + Seeks + Drop>(
     chunks: &mut Vec<Chunk<AnyArray>>,
 ) -> Result<bool, Fault>
     ensures more { IfOk result (λ b. IsTrue b → vec_len chunks.old < vec_len chunks.new) }
-    ensures step { PushesNext R.known R.still R.memory R.failures R.given reader.old chunks.old.items result reader.new chunks.new.items }
+    ensures step { PushesNext R.device reader.old chunks.old.items result reader.new
+        chunks.new.items }
 {
     match reader.next() {
         Some(Ok(chunk)) => {
@@ -51,10 +53,13 @@ fn read_chunks<R: Reads + Seeks + Drop>(
     alloc: Global,
     reader: &mut FileReader<R>,
 ) -> Result<Vec<Chunk<AnyArray>>, Fault>
-    ensures monotone { R.failures (device_of reader.old) ≤ R.failures (device_of reader.new) }
-    ensures failed { OnIo result (Rises (R.failures (device_of reader.old)) (R.failures (device_of reader.new))) }
-    ensures all { IfOk result (λ chunks. GivesAll R.known R.still R.memory R.failures R.given reader.old chunks.items) }
-    ensures refused { IfErr result (RefusesBlocks R.known R.still R.memory R.failures R.given reader.old) }
+    ensures monotone { R.device.failures (device_of reader.old)
+        ≤ R.device.failures (device_of reader.new) }
+    ensures failed { OnIo result
+        (Rises (R.device.failures (device_of reader.old))
+        (R.device.failures (device_of reader.new))) }
+    ensures all { IfOk result (λ chunks. GivesAll R.device reader.old chunks.items) }
+    ensures refused { IfErr result (ReadBlocksCause R.device reader.old) }
 {
     let mut chunks = Vec::new(alloc);
     while push_next(reader, &mut chunks)? {}
@@ -73,7 +78,7 @@ fn read_by(
     ensures described { IfOk result (λ f. file_seen f.metadata ≡ file_seen metadata) }
     ensures chunks { GivesPart chunks_of result (file_chunks (file_seen metadata) bytes.now (items_of projection) limit) }
     ensures rows { IfOk result (λ f. HasFirstRows (file_seen metadata) bytes.now (items_of projection) limit (chunks_of f)) }
-    ensures reason { IfErr result (λ e. OwnFault e (ChunksReason (file_seen metadata) bytes.now (items_of projection) limit e)) }
+    ensures reason { IfErr result (λ e. OwnFault e (FileChunksCause (file_seen metadata) bytes.now (items_of projection) limit e)) }
     ensures device { OnIo result ⊥ }
 {
     let copy = metadata.clone()?;
@@ -112,7 +117,7 @@ fn read_metadata(alloc: Global, bytes: &[u8]) -> Result<FileMetadata, Fault>
 /// [`read_batch`]: ipc_files::read::file::read_batch
 pub fn read_file(alloc: Global, bytes: &[u8]) -> Result<WholeFile, Fault>
     ensures meaning { GivesPart file_read result (file_by None None bytes.now) }
-    ensures reason { IfErr result (λ e. OwnFault e (ReadingReason None None bytes.now e)) }
+    ensures reason { IfErr result (λ e. OwnFault e (ReadingCause None None bytes.now e)) }
     ensures device { OnIo result ⊥ }
 {
     let metadata = read_metadata(alloc, bytes)?;
@@ -147,10 +152,7 @@ pub fn read_file_columns(
     projection: Option<Vec<usize>>,
     limit: Option<usize>,
 ) -> Result<Option<WholeFile>, Fault>
-    ensures columns { ReadsColumns (items_of projection) limit bytes.now result }
-    ensures rows { IfOk result (HaveFirstRows (items_of projection) limit bytes.now) }
-    ensures reason { IfErr result (λ e. OwnFault e (ReadingReason (items_of projection) limit bytes.now e)) }
-    ensures device { OnIo result ⊥ }
+    ensures { ReadsFileColumns (items_of projection) limit bytes.now result }
 {
     let metadata = read_metadata(alloc, bytes)?;
     if !are_there(&projection, metadata.schema.fields.len()) {

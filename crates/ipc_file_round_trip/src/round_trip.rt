@@ -1,13 +1,9 @@
 //! What a file writer wrote is what a file reader reads.
-ghost use Rattle.std.specs.Prelude.{IfErr, IfOk, not};
+ghost use Rattle.std.specs.Prelude.{not};
 ghost use Rattle.lower.specs.TypeViews.{fields_view, pairs_of};
-ghost use Rattle.ipc_model.specs.WriterStates.{answered};
-ghost use Rattle.ipc_model.specs.Writers.{taken};
 ghost use Rattle.ipc_schema_write.specs.WriterAnswers.{byte_order};
-ghost use Rattle.ipc_write.specs.Calls.{ended_as};
 ghost use Rattle.ipc_write.specs.Writers.{chosen_ids};
-ghost use Rattle.ipc_file_write.specs.WrittenFiles.{RefusesWholeFile, RunsToFile};
-ghost use Rattle.ipc_file_round_trip.specs.RoundTrip.{ComesBack, ReadsWritten};
+ghost use Rattle.ipc_file_round_trip.specs.Api.{MakesFileRoundTrip};
 
 use crate::read::{WholeFile, read_file};
 use ipc_base::ipc::IpcField;
@@ -51,18 +47,10 @@ pub fn file_round_trip(
     options: WriteOptions,
     calls: &[StreamCall],
 ) -> Result<FileRoundTrip, Fault>
-    ensures back { let fields = fields_view schema.fields.items in
-        IfOk result (λ r. ComesBack r.file (byte_order (not options.big_endian)) fields (pairs_of schema.metadata.entries)
-        (chosen_ids ipc_fields fields) (pairs_of custom_metadata.entries) (taken (answered (ended_as calls.now r.answers.items)))) }
-    ensures means { let fields = fields_view schema.fields.items in
-        IfOk result (λ r. ReadsWritten r.file (byte_order (not options.big_endian)) fields (pairs_of schema.metadata.entries)
-        (chosen_ids ipc_fields fields) (pairs_of custom_metadata.entries) (taken (answered (ended_as calls.now r.answers.items)))) }
-    ensures run { let fields = fields_view schema.fields.items in
-        IfOk result (λ r. RunsToFile (byte_order (not options.big_endian)) fields (pairs_of schema.metadata.entries)
-        (chosen_ids ipc_fields fields) (pairs_of custom_metadata.entries) calls.now r.answers.items) }
-    ensures only { let fields = fields_view schema.fields.items in
-        IfErr result (RefusesWholeFile (byte_order (not options.big_endian)) fields (pairs_of schema.metadata.entries)
-        (chosen_ids ipc_fields fields) (pairs_of custom_metadata.entries) calls.now) }
+    ensures { let fields = fields_view schema.fields.items in
+        MakesFileRoundTrip (byte_order (not options.big_endian)) fields
+        (pairs_of schema.metadata.entries) (chosen_ids ipc_fields fields)
+        (pairs_of custom_metadata.entries) calls.now result }
 {
     let written = write_file(alloc, schema, ipc_fields, custom_metadata, options, calls)?;
     let WrittenFile { bytes, answers } = written;

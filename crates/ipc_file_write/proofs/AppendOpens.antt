@@ -1,10 +1,10 @@
 -- What is known of a writer that appends to a file.
-use Rattle.std.proofs.Common.{◌≡◌, ℕ, ℤ, Bool, IsTrue, Option, Some, None, refl, sym, ◌∙◌}
+use Rattle.std.proofs.Common.{◌≡◌, ℕ, ℤ, IsTrue, Option, Some, None, refl, sym, ◌∙◌}
 use Rattle.std.specs.HashMap.{HashMap, get}
 use Rattle.std.specs.Option.{option_map}
 use Rattle.std.specs.Ordering.{int_eq}
 use Rattle.std.specs.declared.rc.Rc.{Rc}
-use Rattle.ipc_devices.specs.Device.{GoesTo, Memory}
+use Rattle.ipc_devices.specs.Device.{Device, GoesTo}
 use Rattle.lower_arrays.specs.AnyLayouts.{layout_of}
 use Rattle.lower_arrays.specs.declared.array.AnyArray.{AnyArray}
 use Rattle.ipc_read_flat.proofs.KnownValues.{dictionary_found}
@@ -34,12 +34,12 @@ pub record IsMadeOf {W : Type 0} (m : FileMetadata) (w : FileSeen W) : Type 0 wh
   pub blocks : w.blocks ≡ m.blocks
   pub size : w.size ≡ m.size
 
-pub opened : {W Z S : Type 0} (known : Bool) (memory : W → Memory) (m : FileMetadata) (device : W) (w : FileSeen W) (place : ℕ) (entries : HashMap ℤ (Rc AnyArray Z) S) → MayGoOn m → place ≡ goes_on m
-    → (IsTrue known → GoesTo (memory device) (memory w.device) place)
-    → (IsTrue known → AreAlike (file_dictionaries m (memory device).whole) (Some (known_dictionaries entries)))
+pub opened : {W Z S : Type 0} (d : Device W) (m : FileMetadata) (device : W) (w : FileSeen W) (place : ℕ) (entries : HashMap ℤ (Rc AnyArray Z) S) → MayGoOn m → place ≡ goes_on m
+    → (IsTrue d.is_memory → GoesTo (d.memory device) (d.memory w.device) place)
+    → (IsTrue d.is_memory → AreAlike (file_dictionaries m (d.memory device).whole) (Some (known_dictionaries entries)))
     → ((id : ℤ) → w.remembers id ≡ option_map (λ (values : Rc AnyArray Z). dictionary_of (layout_of values.value)) (get int_eq entries id)) → w.place ≡ place → IsMadeOf m w
-    → GoesOn known memory m device w
-opened known memory m device w place entries may at sought alike remembers is_at made = record {
+    → GoesOn d m device w
+opened d m device w place entries may at sought alike remembers is_at made = record {
   may = may;
   state = made.state;
   order = made.order;

@@ -5,7 +5,7 @@ use Rattle.std.proofs.Math.Seq.{take-append-add}
 use Rattle.lower.proofs.Laws.{norm_fields-norm_fields}
 use Rattle.lower.specs.Normal.{norm_fields}
 use Rattle.lower.specs.TypeTrees.{Pairs}
-use Rattle.ipc_devices.specs.Device.{GoesTo, Memory, before}
+use Rattle.ipc_devices.specs.Device.{Device, GoesTo, Memory, before}
 use Rattle.ipc_model.specs.Batches.{Chunk, Schema}
 use Rattle.ipc_model.specs.Entries.{Dictionaries}
 use Rattle.ipc_model.proofs.Given.{some-same}
@@ -59,9 +59,9 @@ pub same_failures : {W : Type 0} (failures : W → ℕ) (w : FileSeen W) (device
 same_failures {W = W} failures w device p e = ap (λ (x : FileSeen W). failures x.device) e
 
 -- After a file of some chunks, with the schema in the normal form.
-pub goes_on_with : {W : Type 0} (known : Bool) (memory : W → Memory) (m : FileMetadata) (device : W) (w : FileSeen W) → GoesOn known memory m device w → GoesOnWith known memory m device w
-goes_on_with known memory m device w g k is dictionaries cs means =
-    let bytes = (memory device).whole in
+pub goes_on_with : {W : Type 0} (d : Device W) (m : FileMetadata) (device : W) (w : FileSeen W) → GoesOn d m device w → GoesOnWith d m device w
+goes_on_with d m device w g k is dictionaries cs means =
+    let bytes = (d.memory device).whole in
     let p = goes_on m in
     let front = take p bytes in
     let headed = is_headed bytes m is in
@@ -86,7 +86,7 @@ goes_on_with known memory m device w g k is dictionaries cs means =
     } in
     record {
       bytes = front;
-      held = before_inside (memory device) (memory w.device) p (g.stands k) inside;
+      held = before_inside (d.memory device) (d.memory w.device) p (g.stands k) inside;
       file = at_state false Started w.state w front (map normal_chunk cs) (sym g.state) open_file;
     }
 
@@ -112,10 +112,10 @@ taken p bytes front behind parts far =
     let at : p ≡ length front + (p - length front) = omega (arith, far) in
     ap (take p) parts ∙ ap (λ (k : ℕ). take k (front ++ behind)) at ∙ take-append-add front behind (p - length front)
 
-module _ {W : Type 0} (known : Bool) (memory : W → Memory) (m : FileMetadata) (device : W) (w : FileSeen W) (a : FileSeen (Unit {0})) (is_stream : Bool) (cs : List Chunk) (g : GoesOn known memory m device w) (k : IsTrue known)
-    (is : metadata_of (memory device).whole ≡ Some m) (h : IsWholeFile is_stream a (memory device).whole cs) where
+module _ {W : Type 0} (d : Device W) (m : FileMetadata) (device : W) (w : FileSeen W) (a : FileSeen (Unit {0})) (is_stream : Bool) (cs : List Chunk) (g : GoesOn d m device w) (k : IsTrue d.is_memory)
+    (is : metadata_of (d.memory device).whole ≡ Some m) (h : IsWholeFile is_stream a (d.memory device).whole cs) where
   abbrev bytes : List ℕ
-  bytes = (memory device).whole
+  bytes = (d.memory device).whole
 
   open_front : IsOpenFile is_stream a h.front cs
   open_front = h.open_front
@@ -183,7 +183,7 @@ module _ {W : Type 0} (known : Bool) (memory : W → Memory) (m : FileMetadata) 
       let whole : take (goes_on m) bytes ≡ h.front = ap (take (goes_on m)) h.bytes_are ∙ take_at h.front h.behind (goes_on m) (sym place) in
       stream_same h.front (take (goes_on m) bytes) (head_of_file a) (head_of_file w) a.remembers w.remembers cs cs (sym whole) same_head remembers-same refl (open_front.stream is_one)
 
-  pub goes_on_again : HoldsBytes is_stream (memory w.device) w [] cs
+  pub goes_on_again : HoldsBytes is_stream (d.memory w.device) w [] cs
   goes_on_again =
       let p = goes_on m in
       let front = take p bytes in
@@ -202,12 +202,12 @@ module _ {W : Type 0} (known : Bool) (memory : W → Memory) (m : FileMetadata) 
       } in
       record {
         bytes = front;
-        held = before_inside (memory device) (memory w.device) p (g.stands k) inside-bytes;
+        held = before_inside (d.memory device) (d.memory w.device) p (g.stands k) inside-bytes;
         file = at_state is_stream Started w.state w front cs (sym g.state) open_file;
       }
 
-pub goes_on_any : {W : Type 0} (known : Bool) (memory : W → Memory) (m : FileMetadata) (device : W) (w : FileSeen W) → GoesOn known memory m device w → GoesOnAgain known memory m device w
-goes_on_any known memory m device w g k is is_stream a cs h = goes_on_again known memory m device w a is_stream cs g k is h
+pub goes_on_any : {W : Type 0} (d : Device W) (m : FileMetadata) (device : W) (w : FileSeen W) → GoesOn d m device w → GoesOnAgain d m device w
+goes_on_any d m device w g k is is_stream a cs h = goes_on_again d m device w a is_stream cs g k is h
 
 -- ---- files that can be appended to
 
@@ -248,12 +248,12 @@ has-dictionaries m a is_stream bytes cs is h none =
     let both : None ≡ Some h.file.known = sym none ∙ there in
     absurd cc
 
-pub never_refused : {W : Type 0} (known : Bool) (memory : W → Memory) (m : FileMetadata) (device : W) (e : Fault) → RefusesFile known m (memory device).whole e → RefusesNoWhole known memory m device e
-never_refused known memory m device e h =
-    own-two e (RefusesToGoOn m e ⊎ HasNoDictionaries known m (memory device).whole e) (MayGoOn m → RefusesToGoOn m e → ⊥) _
+pub never_refused : {W : Type 0} (d : Device W) (m : FileMetadata) (device : W) (e : Fault) → RefusesFile d.is_memory m (d.memory device).whole e → RefusesNoWhole d m device e
+never_refused d m device e h =
+    own-two e (RefusesToGoOn m e ⊎ HasNoDictionaries d.is_memory m (d.memory device).whole e) (MayGoOn m → RefusesToGoOn m e → ⊥) _
     (λ reason not k is is_stream a cs whole some short.
     elim reason [
-      | inl refused ↦ not (may_go_on m a is_stream (memory device).whole cs is whole some short) refused
-      | inr lacks ↦ has-dictionaries m a is_stream (memory device).whole cs is whole (lacks.none k)
+      | inl refused ↦ not (may_go_on m a is_stream (d.memory device).whole cs is whole some short) refused
+      | inr lacks ↦ has-dictionaries m a is_stream (d.memory device).whole cs is whole (lacks.none k)
     ])
     h (refuses_not m e)

@@ -1,13 +1,13 @@
 -- What the calls of a file writer do, one after the other.
 use Rattle.std.proofs.Common.{◌≡◌, ℕ, Bool, true, false, List, [], ◌∷◌, ◌++◌, Result, Ok, Err, OnOk, refl, sym, ap, ◌∙◌, subst, append_assoc, append-nil, ◌-◌, length, take, replicate, arith}
 use Rattle.std.proofs.lemmas.List.{take_all}
-use Rattle.std.specs.Prelude.{Vec, vec_capacity, vec_len}
+use Rattle.std.specs.Prelude.{Vec}
 use Rattle.std.specs.declared.alloc.Global.{Global}
 use Rattle.std.specs.Borrow.{Bor}
 use Rattle.lower.specs.TypeTrees.{FieldTrees, Pairs}
 use Rattle.lower_arrays.specs.declared.array.AnyArray.{AnyArray}
 use Rattle.lower_types.specs.declared.Endianness.{Endianness}
-use Rattle.ipc_devices.specs.Device.{Memory, before}
+use Rattle.ipc_devices.specs.Device.{Device, before}
 use Rattle.ipc_devices.specs.declared.fault.Fault.{Fault}
 use Rattle.ipc_devices.specs.declared.fault.Fault.TheVariants.{Io}
 use Rattle.ipc_model.specs.Batches.{Chunk}
@@ -24,15 +24,16 @@ use Rattle.ipc_base.specs.IdTrees.{IdTrees}
 use Rattle.ipc_file_write.specs.Calls.{AreMade, EndsFile, GrowsBy, HasChosen, IdsAre, IsMade, IsWrittenFile, MakesCall, vector, writer_seen}
 use Rattle.ipc_file_write.specs.FileWriters.{Agrees, EndsWith, FileIs, FileSeen, HasNothing, IsFileOf, IsSameFile, IsWholeFile, Remains, SendsBeginning, SendsEnding, StartsWith, StateComesFirst, TakesPairs}
 use Rattle.ipc_file_write.specs.Writes.{Appends, SendsColumns}
+use Rattle.ipc_write.specs.Vectors.{vectors}
 
 -- All calls are made, each on the writer that the one before it left.
-abbrev pub AllMove : {W : Type 0} → Bool → (W → Memory) → FileSeen W → List StreamCall → List (Result (Unit {0}) Fault) → FileSeen W → Type 0
-AllMove known memory a [] [] b = b ≡ a
-AllMove {W = W} known memory a (call ∷ calls) (r ∷ rs) b = (m : FileSeen W) × (MakesCall known memory a call r m × AllMove known memory m calls rs b)
-AllMove known memory a _ _ b = ⊥
+abbrev pub AllMove : {W : Type 0} → Device W → FileSeen W → List StreamCall → List (Result (Unit {0}) Fault) → FileSeen W → Type 0
+AllMove d a [] [] b = b ≡ a
+AllMove {W = W} d a (call ∷ calls) (r ∷ rs) b = (m : FileSeen W) × (MakesCall d a call r m × AllMove d m calls rs b)
+AllMove d a _ _ b = ⊥
 
-module _ {W : Type 0} (known : Bool) (memory : W → Memory) where
-  pub moves_run : (a b : FileSeen W) (calls : List StreamCall) (rs : List (Result (Unit {0}) Fault)) → AllMove known memory a calls rs b → IsRun (writer_seen a) (ended_as calls rs) (writer_seen b)
+module _ {W : Type 0} (d : Device W) where
+  pub moves_run : (a b : FileSeen W) (calls : List StreamCall) (rs : List (Result (Unit {0}) Fault)) → AllMove d a calls rs b → IsRun (writer_seen a) (ended_as calls rs) (writer_seen b)
   moves_run a b [] [] h = ap (λ (w : FileSeen W). writer_seen w) (sym h)
   moves_run a b [] (r ∷ rs) h = absurd h
   moves_run a b (call ∷ calls) [] h = absurd h
@@ -43,8 +44,8 @@ module _ {W : Type 0} (known : Bool) (memory : W → Memory) where
   taken_first call true ps = ap (λ (cs : List Chunk). cs ++ taken ps) (append-nil (added_by call))
   taken_first call false ps = refl
 
-  pub moves_follow : (a b : FileSeen W) (calls : List StreamCall) (rs : List (Result (Unit {0}) Fault)) → AllMove known memory a calls rs b → GrowsBy known memory a b (taken (answered (ended_as calls rs)))
-  moves_follow a b [] [] h = record { followed = λ k base cs at. subst (λ (w : FileSeen W). Agrees memory w base (cs ++ [])) (sym h) (subst (λ (xs : List Chunk). Agrees memory a base xs) (sym (append-nil cs)) at) }
+  pub moves_follow : (a b : FileSeen W) (calls : List StreamCall) (rs : List (Result (Unit {0}) Fault)) → AllMove d a calls rs b → GrowsBy d a b (taken (answered (ended_as calls rs)))
+  moves_follow a b [] [] h = record { followed = λ k base cs at. subst (λ (w : FileSeen W). Agrees d w base (cs ++ [])) (sym h) (subst (λ (xs : List Chunk). Agrees d a base xs) (sym (append-nil cs)) at) }
   moves_follow a b [] (r ∷ rs) h = absurd h
   moves_follow a b (call ∷ calls) [] h = absurd h
   moves_follow a b (call ∷ calls) (r ∷ rs) h =
@@ -56,20 +57,20 @@ module _ {W : Type 0} (known : Bool) (memory : W → Memory) where
       record {
         followed = λ k base cs at.
             let joined : (cs ++ first) ++ rest ≡ cs ++ taken (answered (ended_as (call ∷ calls) (r ∷ rs))) = append_assoc cs first rest ∙ ap (λ (xs : List Chunk). cs ++ xs) all in
-            subst (λ (xs : List Chunk). Agrees memory b base xs) joined (rest_follows.followed k base (cs ++ first) (one.followed k base cs at));
+            subst (λ (xs : List Chunk). Agrees d b base xs) joined (rest_follows.followed k base (cs ++ first) (one.followed k base cs at));
       }
 
   -- what no call changes
   same_then : (a m b : FileSeen W) → IsSameFile a m → IsSameFile m b → IsSameFile a b
   same_then a m b f g = record { order = g.order ∙ f.order; fields = g.fields ∙ f.fields; metadata = g.metadata ∙ f.metadata; chosen = g.chosen ∙ f.chosen; pairs = g.pairs ∙ f.pairs; size = g.size ∙ f.size }
 
-  pub moves_same : (a b : FileSeen W) (calls : List StreamCall) (rs : List (Result (Unit {0}) Fault)) → AllMove known memory a calls rs b → IsSameFile a b
+  pub moves_same : (a b : FileSeen W) (calls : List StreamCall) (rs : List (Result (Unit {0}) Fault)) → AllMove d a calls rs b → IsSameFile a b
   moves_same a b [] [] h = subst (λ (w : FileSeen W). IsSameFile a w) (sym h) (record { order = refl; fields = refl; metadata = refl; chosen = refl; pairs = refl; size = refl })
   moves_same a b [] (r ∷ rs) h = absurd h
   moves_same a b (call ∷ calls) [] h = absurd h
   moves_same a b (call ∷ calls) (r ∷ rs) h = same_then a h.0 b h.1.0.same (moves_same h.0 b calls rs h.1.1)
 
-  pub moves_chosen : (a b : FileSeen W) (calls : List StreamCall) (rs : List (Result (Unit {0}) Fault)) → AllMove known memory a calls rs b → HasChosen a → HasChosen b
+  pub moves_chosen : (a b : FileSeen W) (calls : List StreamCall) (rs : List (Result (Unit {0}) Fault)) → AllMove d a calls rs b → HasChosen a → HasChosen b
   moves_chosen a b [] [] h k = subst (λ (w : FileSeen W). HasChosen w) (sym h) k
   moves_chosen a b [] (r ∷ rs) h k = absurd h
   moves_chosen a b (call ∷ calls) [] h k = absurd h
@@ -113,11 +114,11 @@ chosen_finished b e f = subst (λ (s : WriterState). IdsAre s b.ids b.chosen) (s
 chosen_of : {W : Type 0} (a b : FileSeen W) → a.state ≡ Started → b.ids ≡ a.ids → b.chosen ≡ a.chosen → HasChosen a → b.ids ≡ b.chosen
 chosen_of a b was f g h = let had : a.ids ≡ a.chosen = subst (λ (s : WriterState). IdsAre s a.ids a.chosen) was h in f ∙ had ∙ sym g
 
-module _ {W : Type 0} (known grows : Bool) (failures room : W → ℕ) (memory : W → Memory) (a b : FileSeen W) where
-  remains : Remains known memory a b → GrowsBy known memory a b []
-  remains h = record { followed = λ k base cs at. subst (λ (xs : List Chunk). Agrees memory b base xs) (sym (append-nil cs)) (h.kept k true base cs at) }
+module _ {W : Type 0} (d : Device W) (a b : FileSeen W) where
+  remains : Remains d a b → GrowsBy d a b []
+  remains h = record { followed = λ k base cs at. subst (λ (xs : List Chunk). Agrees d b base xs) (sym (append-nil cs)) (h.kept k true base cs at) }
 
-  pub start_moves : (r : Result (Unit {0}) Fault) → StateComesFirst (fault_unless_new a.state) a r b → SendsBeginning known grows failures room memory a r b → OnOk r (StartsWith a b) → Remains known memory a b → MakesCall known memory a Start r b
+  pub start_moves : (r : Result (Unit {0}) Fault) → StateComesFirst (fault_unless_new a.state) a r b → SendsBeginning d a r b → OnOk r (StartsWith a b) → Remains d a b → MakesCall d a Start r b
   start_moves (Ok x) first sends ok means = record {
     may = ap state_seen ok.was;
     after = writer_after_is a b _ (ap state_seen ok.is) sends.step.same.order sends.step.same.pairs;
@@ -140,7 +141,7 @@ module _ {W : Type 0} (known grows : Bool) (failures room : W → ℕ) (memory :
     chosen = chosen_stay a b sends.step.refused.state sends.step.refused.ids sends.step.same.chosen;
   }
 
-  pub finish_moves : (r : Result (Unit {0}) Fault) → StateComesFirst (fault_unless_started a.state) a r b → SendsEnding known grows failures room memory a r b → OnOk r (EndsWith a b) → Remains known memory a b → MakesCall known memory a Finish r b
+  pub finish_moves : (r : Result (Unit {0}) Fault) → StateComesFirst (fault_unless_started a.state) a r b → SendsEnding d a r b → OnOk r (EndsWith a b) → Remains d a b → MakesCall d a Finish r b
   finish_moves (Ok x) first sends ok means = record {
     may = ap state_seen ok.was;
     after = writer_after_is a b _ (ap state_seen ok.is) sends.step.same.order sends.step.same.pairs;
@@ -163,8 +164,8 @@ module _ {W : Type 0} (known grows : Bool) (failures room : W → ℕ) (memory :
     chosen = chosen_stay a b sends.step.refused.state sends.step.refused.ids sends.step.same.chosen;
   }
 
-  pub write_moves : (chunk : Bor (List AnyArray)) (r : Result (Unit {0}) Fault) → StateComesFirst (fault_unless_started a.state) a r b → SendsColumns known grows failures room memory a r b chunk.now → Appends known memory a r b (chunk_written chunk.now)
-      → MakesCall known memory a (Write chunk) r b
+  pub write_moves : (chunk : Bor (List AnyArray)) (r : Result (Unit {0}) Fault) → StateComesFirst (fault_unless_started a.state) a r b → SendsColumns d a r b chunk.now → Appends d a r b (chunk_written chunk.now)
+      → MakesCall d a (Write chunk) r b
   write_moves chunk (Ok x) first sends means = record {
     may = ap state_seen sends.takes.was;
     after = writer_after_is a b _ (ap state_seen sends.takes.is) sends.step.same.order sends.step.same.pairs;
@@ -175,33 +176,33 @@ module _ {W : Type 0} (known grows : Bool) (failures room : W → ℕ) (memory :
   write_moves chunk (Err (Io e)) first sends means = record {
     may = ap state_seen (was_started a.state a b e first);
     after = writer_after_is a b _ (ap state_seen sends.step.io.0) sends.step.same.order sends.step.same.pairs;
-    follows = record { followed = λ k base cs at. subst (λ (xs : List Chunk). Agrees memory b base xs) (sym (append-nil cs)) (means.kept k true base cs at) };
+    follows = record { followed = λ k base cs at. subst (λ (xs : List Chunk). Agrees d b base xs) (sym (append-nil cs)) (means.kept k true base cs at) };
     same = sends.step.same;
     chosen = λ h. chosen_failed b sends.step.io.0;
   }
   write_moves chunk (Err _) first sends means = record {
     may = tt;
     after = writer_after_is a b _ (ap state_seen sends.step.refused.state) sends.step.same.order sends.step.same.pairs;
-    follows = record { followed = λ k base cs at. subst (λ (xs : List Chunk). Agrees memory b base xs) (sym (append-nil cs)) (means.kept k true base cs at) };
+    follows = record { followed = λ k base cs at. subst (λ (xs : List Chunk). Agrees d b base xs) (sym (append-nil cs)) (means.kept k true base cs at) };
     same = sends.step.same;
     chosen = chosen_stay a b sends.step.refused.state sends.step.refused.ids sends.step.same.chosen;
   }
 
 -- ---- calls by what each says of itself
 
-module _ {W : Type 0} (known grows : Bool) (failures room : W → ℕ) (memory : W → Memory) where
+module _ {W : Type 0} (d : Device W) where
   abbrev Made : FileSeen W → StreamCall → Result (Unit {0}) Fault → FileSeen W → Type 0
-  Made = IsMade known grows failures room memory
+  Made = IsMade d
 
   abbrev AllMade : FileSeen W → List StreamCall → List (Result (Unit {0}) Fault) → FileSeen W → Type 0
-  AllMade = AreMade known grows failures room memory
+  AllMade = AreMade d
 
-  pub moves_one : (a b : FileSeen W) (call : StreamCall) (r : Result (Unit {0}) Fault) → Made a call r b → MakesCall known memory a call r b
-  moves_one a b Start r h = start_moves known grows failures room memory a b r h.first h.step h.ok h.means
-  moves_one a b (Write chunk) r h = write_moves known grows failures room memory a b chunk r h.first h.step h.means
-  moves_one a b Finish r h = finish_moves known grows failures room memory a b r h.first h.step h.ok h.means
+  pub moves_one : (a b : FileSeen W) (call : StreamCall) (r : Result (Unit {0}) Fault) → Made a call r b → MakesCall d a call r b
+  moves_one a b Start r h = start_moves d a b r h.state.first h.device h.state.ok h.content
+  moves_one a b (Write chunk) r h = write_moves d a b chunk r h.state h.device h.content
+  moves_one a b Finish r h = finish_moves d a b r h.state.first h.device h.state.ok h.content
 
-  pub moves_all : (a b : FileSeen W) (calls : List StreamCall) (rs : List (Result (Unit {0}) Fault)) → AllMade a calls rs b → AllMove known memory a calls rs b
+  pub moves_all : (a b : FileSeen W) (calls : List StreamCall) (rs : List (Result (Unit {0}) Fault)) → AllMade a calls rs b → AllMove d a calls rs b
   moves_all a b [] [] h = h
   moves_all a b [] (r ∷ rs) h = absurd h
   moves_all a b (call ∷ calls) [] h = absurd h
@@ -229,7 +230,7 @@ module _ (bytes xs : List ℕ) (cs : List Chunk) where
   written_as o p fs gs es ds is js ps qs a b c d e f h = rw (a, b, c, d, e, f) h
 
 -- A writer to empty memory that was finished.
-pub file_ended : (a b : FileSeen (Vec ℕ Global)) (v : Vec ℕ Global) → Remains true vector a b → (HasChosen a → HasChosen b) → IsSameFile a b → b.state ≡ Finished → v ≡ b.device → EndsFile a v.items
+pub file_ended : (a b : FileSeen (Vec ℕ Global)) (v : Vec ℕ Global) → Remains vectors a b → (HasChosen a → HasChosen b) → IsSameFile a b → b.state ≡ Finished → v ≡ b.device → EndsFile a v.items
 file_ended a b v remains chosen same is over = record {
   file = λ cs had agrees.
       let there = remains.kept refl true [] cs agrees in
@@ -240,7 +241,7 @@ file_ended a b v remains chosen same is over = record {
       (record { dictionaries = b.dictionaries; blocks = b.blocks; file = whole.file; stream = whole.stream refl });
 }
 
-pub finished_now : (a b : FileSeen (Vec ℕ Global)) (v : Vec ℕ Global) → SendsEnding true true (λ v. 0) (λ v. vec_capacity v - vec_len v) vector a (Ok tt) b → EndsWith a b → Remains true vector a b → v ≡ b.device → EndsFile a v.items
+pub finished_now : (a b : FileSeen (Vec ℕ Global)) (v : Vec ℕ Global) → SendsEnding vectors a (Ok tt) b → EndsWith a b → Remains vectors a b → v ≡ b.device → EndsFile a v.items
 finished_now a b v sends ok means over = file_ended a b v means (λ h. chosen_finished b ok.is (chosen_of a b ok.was ok.ids sends.step.same.chosen h)) sends.step.same ok.is over
 
 pub finished_before : (a : FileSeen (Vec ℕ Global)) (v : Vec ℕ Global) → a.state ≡ Finished → v ≡ a.device → EndsFile a v.items
@@ -248,11 +249,11 @@ finished_before a v is over =
     file_ended a a v (record { kept = λ k is_stream base cs h. h }) (λ h. h) (record { order = refl; fields = refl; metadata = refl; chosen = refl; pairs = refl; size = refl }) is over
 
 -- a new writer, its pairs, and its calls
-pub file_written_by : (a b w : FileSeen (Vec ℕ Global)) (bytes : List ℕ) (fs : FieldTrees) (es : Pairs) (is : IdTrees) (order : Endianness) (pairs : Pairs) (cs : List Chunk) → IsFileOf a fs es is order [] → a.state ≡ New → HasNothing vector a
-    → a.device.items ≡ [] → TakesPairs a b pairs → Remains true vector a b → IsSameFile b w → (HasChosen b → HasChosen w) → GrowsBy true vector b w cs → EndsFile w bytes → IsWrittenFile bytes order fs es is pairs cs
+pub file_written_by : (a b w : FileSeen (Vec ℕ Global)) (bytes : List ℕ) (fs : FieldTrees) (es : Pairs) (is : IdTrees) (order : Endianness) (pairs : Pairs) (cs : List Chunk) → IsFileOf a fs es is order [] → a.state ≡ New → HasNothing vectors a
+    → a.device.items ≡ [] → TakesPairs a b pairs → Remains vectors a b → IsSameFile b w → (HasChosen b → HasChosen w) → GrowsBy vectors b w cs → EndsFile w bytes → IsWrittenFile bytes order fs es is pairs cs
 file_written_by a b w bytes fs es is order pairs cs of new nothing empty takes remains same chosen follows ends =
     let none : before (vector a.device) ≡ [] = vector_before a.device ∙ empty in
-    let first : Agrees vector a [] [] = subst (λ (xs : List ℕ). Agrees vector a xs []) none nothing.agrees in
+    let first : Agrees vectors a [] [] = subst (λ (xs : List ℕ). Agrees vectors a xs []) none nothing.agrees in
     let had : HasChosen b = subst (λ (s : WriterState). IdsAre s b.ids b.chosen) (sym (takes.state ∙ new)) tt in
     let file = ends.file cs (chosen had) (follows.followed refl [] [] (remains.kept refl true [] [] first)) in
     written_as bytes bytes cs order w.order fs w.fields es w.metadata is w.chosen pairs w.pairs refl (sym (same.order ∙ takes.order ∙ of.order_is)) (sym (same.fields ∙ takes.fields ∙ of.fields_are))

@@ -1,15 +1,17 @@
 -- The bytes of a file writer after each call.
-use Rattle.std.proofs.Common.{◌≡◌, ℕ, ◌+◌, ◌%◌, ◌≤◌, Bool, IsTrue, List, [], ◌∷◌, ◌++◌, length, take, replicate, Some, refl, sym, ap, ◌∙◌, subst, append_assoc, append-nil, length-append, arith, Ok, Err}
-use Rattle.ipc_devices.specs.Device.{Memory, WritesOver, before}
+use Rattle.std.proofs.Common.{◌≡◌, ℕ, ◌+◌, ◌%◌, ◌≤◌, Bool, IsTrue, List, [], ◌∷◌, ◌++◌, length, take, replicate, None, Some, refl, sym, ap, ◌∙◌, subst, append_assoc, append-nil, length-append, arith, Ok, Err}
+use Rattle.ipc_devices.specs.Device.{Device, Memory, WritesOver, before}
 use Rattle.ipc_devices.specs.Faults.{OnIo, OnRefused}
 use Rattle.ipc_devices.specs.declared.fault.Fault.{Fault}
 use Rattle.ipc_devices.specs.declared.fault.Fault.TheVariants.{Argument, Io, Memory as NoMemory}
+use Rattle.ipc_devices.specs.declared.fault.StateFault.TheVariants as faults
+use Rattle.lower.specs.TypeTrees.{Pairs}
 use Rattle.ipc_table_views.specs.declared.file.Block.{Block}
 use Rattle.ipc_model.specs.Batches.{Chunk, Schema}
 use Rattle.ipc_model.specs.Files.{magic}
 use Rattle.ipc_model.specs.Streams.{Head}
 use Rattle.ipc_model.specs.WrittenLaws.{prefix}
-use Rattle.ipc_plan.specs.Sending.{WritesSome, seen_by}
+use Rattle.ipc_plan.specs.Sending.{WritesSome}
 use Rattle.lower_arrays.specs.Layouts.{Layout}
 use Rattle.ipc_stream_lemmas.specs.Messages.{chunk_written, message_bytes}
 use Rattle.ipc_stream_lemmas.specs.Remembered.{Remembered, nothing_remembered}
@@ -27,7 +29,7 @@ use Rattle.ipc_file_lemmas.proofs.Ends.{chunk_ends, chunk_natural, chunk_reaches
 use Rattle.ipc_file_lemmas.specs.FileBytes.{EndsStreamBehind, HoldsFile, HasStreamBehind, SendsChunk, Sent, all_bytes, block_at, blocks_at, chunk_bytes, file_head}
 use Rattle.ipc_file_lemmas.proofs.FileSteps.{end_law, grow_law, start_law, write_law}
 use Rattle.ipc_file_lemmas.proofs.StreamSteps.{stream_end_law, stream_start_law, stream_write_law}
-use Rattle.ipc_file_write.specs.FileWriters.{FileIs, FileSeen, FileStep, HoldsBytes, IsEnding, IsFresh, IsOpenFile, IsSameFile, Kept, MayFinish, MayStart, ReachesEnd, RefusesFinish, RefusesStart, Remains, RemembersSame, SendsBeginning, SendsEnding, ending_bytes, head_of_file}
+use Rattle.ipc_file_write.specs.FileWriters.{FileIs, FileSeen, FileStep, HoldsBytes, IsEnding, IsFresh, IsOpenFile, IsSameFile, Kept, MayFinish, MayStart, ReachesEnd, RefusesFinish, RefusesStart, Remains, RemembersSame, SendsBeginning, SendsEnding, TakesPairs, ending_bytes, fault_if_over, head_of_file}
 use Rattle.ipc_file_write.specs.declared.sending.Ending.{Ending}
 use Rattle.ipc_file_write.specs.declared.writer.Starting.{Starting}
 
@@ -44,22 +46,23 @@ on_refused (Io x) P p = tt
 on_refused _ P p = p
 
 -- a call that was refused before anything was sent
-pub kept_step : {W : Type 0} (known grows : Bool) (failures room : W → ℕ) (memory : W → Memory) (a b : FileSeen W) (e : Fault) (bytes : List ℕ) → Kept a b → IsSameFile a b
-    → ((P : Type 0) → OnIo {X = Unit {0}} (Err e) P) → FileStep known grows failures room memory a (Err e) b bytes
-kept_step known grows failures room memory a b e bytes kept same not_io = record {
+pub kept_step : {W : Type 0} (d : Device W) (a b : FileSeen W) (e : Fault) (bytes : List ℕ) → Kept a b → IsSameFile a b
+    → ((P : Type 0) → OnIo {X = Unit {0}} (Err e) P) → FileStep d a (Err e) b bytes
+kept_step d a b e bytes kept same not_io = record {
   same = same;
   monotone = rw kept.device (omega arith);
   io = not_io _;
   refused = on_refused e _ kept;
   done = tt;
   all_sent = λ k. tt;
-  some_sent = λ k. rw kept.device (some_none (memory a.device) bytes);
+  some_sent = λ k. rw kept.device (some_none (d.memory a.device) bytes);
+  names = ap d.names kept.device;
 }
 
-refused_step : {W : Type 0} (known grows : Bool) (failures room : W → ℕ) (memory : W → Memory) (a : FileSeen W) (e : Fault)
-    → ((P : Type 0) → OnIo {X = Unit {0}} (Err e) P) → FileStep known grows failures room memory a (Err e) a []
-refused_step known grows failures room memory a e not_io =
-    kept_step known grows failures room memory a a e [] (record { device = refl; state = refl; ids = refl; pairs = refl; remembers = λ id. refl; dictionaries = refl; blocks = refl; place = refl })
+refused_step : {W : Type 0} (d : Device W) (a : FileSeen W) (e : Fault)
+    → ((P : Type 0) → OnIo {X = Unit {0}} (Err e) P) → FileStep d a (Err e) a []
+refused_step d a e not_io =
+    kept_step d a a e [] (record { device = refl; state = refl; ids = refl; pairs = refl; remembers = λ id. refl; dictionaries = refl; blocks = refl; place = refl })
     (record { order = refl; fields = refl; metadata = refl; chosen = refl; pairs = refl; size = refl }) not_io
 
 -- So nothing was sent of a file's beginning, and nothing of its end.
@@ -67,13 +70,13 @@ none_sent : (e : Fault) (P : Type 0) → ((Q : Type 0) → OnIo {X = Unit {0}} (
 none_sent (Io x) P not_io = not_io _
 none_sent _ P not_io = tt
 
-pub refused_beginning : {W : Type 0} (known grows : Bool) (failures room : W → ℕ) (memory : W → Memory) (a : FileSeen W) (e : Fault)
-    → ((P : Type 0) → OnIo {X = Unit {0}} (Err e) P) → SendsBeginning known grows failures room memory a (Err e) a
-refused_beginning known grows failures room memory a e not_io = record { bytes = []; is = none_sent e _ not_io; place = tt; step = refused_step known grows failures room memory a e not_io }
+pub refused_beginning : {W : Type 0} (d : Device W) (a : FileSeen W) (e : Fault)
+    → ((P : Type 0) → OnIo {X = Unit {0}} (Err e) P) → SendsBeginning d a (Err e) a
+refused_beginning d a e not_io = record { bytes = []; is = none_sent e _ not_io; place = tt; step = refused_step d a e not_io }
 
-pub refused_ending : {W : Type 0} (known grows : Bool) (failures room : W → ℕ) (memory : W → Memory) (a : FileSeen W) (e : Fault)
-    → ((P : Type 0) → OnIo {X = Unit {0}} (Err e) P) → SendsEnding known grows failures room memory a (Err e) a
-refused_ending known grows failures room memory a e not_io = record { bytes = []; is = none_sent e _ not_io; step = refused_step known grows failures room memory a e not_io }
+pub refused_ending : {W : Type 0} (d : Device W) (a : FileSeen W) (e : Fault)
+    → ((P : Type 0) → OnIo {X = Unit {0}} (Err e) P) → SendsEnding d a (Err e) a
+refused_ending d a e not_io = record { bytes = []; is = none_sent e _ not_io; step = refused_step d a e not_io }
 
 pub start_not_io : {W : Type 0} (w : FileSeen W) (e : Fault) → RefusesStart w e → (P : Type 0) → OnIo {X = Unit {0}} (Err e) P
 start_not_io w (Io x) h P = absurd h
@@ -157,10 +160,10 @@ held_more m m' base bytes more held over = over.added ∙ ap (λ (xs : List ℕ)
 
 -- ---- the start
 
-module _ {W : Type 0} (known grows : Bool) (failures room : W → ℕ) (memory : W → Memory) (a b : FileSeen W) where
+module _ {W : Type 0} (d : Device W) (a b : FileSeen W) where
   -- a device failed while the first bytes were sent
   pub start_broken : (e : Fault) (bytes : List ℕ) → a.state ≡ New → b.state ≡ Failed → SameBlocks a b
-      → Delivers {X = Unit {0}} known grows (seen_by failures room memory a.device) (seen_by failures room memory b.device) (Err e) bytes → Remains known memory a b
+      → Delivers {X = Unit {0}} d bytes a.device (Err e) b.device → Remains d a b
   start_broken e bytes was is same sent = record {
     kept = λ k is_stream base cs h.
         let fresh : IsFresh a h.bytes cs = at_state is_stream a.state New a h.bytes cs was h.file in
@@ -168,7 +171,7 @@ module _ {W : Type 0} (known grows : Bool) (failures room : W → ℕ) (memory :
         let all : List ℕ = h.bytes ++ take part.count bytes in
         record {
           bytes = all;
-          held = held_more (memory a.device) (memory b.device) base h.bytes (take part.count bytes) h.held part.over;
+          held = held_more (d.memory a.device) (d.memory b.device) base h.bytes (take part.count bytes) h.held part.over;
           file = at_state is_stream Failed b.state b all cs (sym is)
               (fresh_file (head_of_file b).schema b.size all b.dictionaries b.blocks b.remembers cs (same.dictionaries ∙ fresh.no_dictionaries) (same.blocks ∙ fresh.no_blocks) fresh.no_chunks
               (λ id. same.remembers id ∙ fresh.nothing id));
@@ -178,12 +181,12 @@ module _ {W : Type 0} (known grows : Bool) (failures room : W → ℕ) (memory :
   -- the first bytes were sent
   pub started : (s : Starting) (bytes : List ℕ) → MayStart a s → bytes ≡ s.bytes.items → b.state ≡ Started → b.ids ≡ a.chosen → b.order ≡ a.order → b.fields ≡ a.fields → b.metadata ≡ a.metadata → b.pairs ≡ a.pairs
       → b.remembers ≡ a.remembers → b.dictionaries ≡ a.dictionaries → b.blocks ≡ a.blocks → b.place ≡ length bytes
-      → Delivers {X = Unit {0}} known grows (seen_by failures room memory a.device) (seen_by failures room memory b.device) (Ok tt) bytes → Remains known memory a b
+      → Delivers {X = Unit {0}} d bytes a.device (Ok tt) b.device → Remains d a b
   started s bytes may same is ids order fields metadata pairs remembers dictionaries blocks place sent = record {
     kept = λ k is_stream base cs h.
         let fresh : IsFresh a h.bytes cs = at_state is_stream a.state New a h.bytes cs may.was h.file in
         let first : h.bytes ++ bytes ≡ bytes = ap (λ (xs : List ℕ). xs ++ bytes) fresh.none in
-        let held = held_more (memory a.device) (memory b.device) base h.bytes bytes h.held (sent.memory k) ∙ ap (λ (xs : List ℕ). base ++ xs) first in
+        let held = held_more (d.memory a.device) (d.memory b.device) base h.bytes bytes h.held (sent.memory k) ∙ ap (λ (xs : List ℕ). base ++ xs) first in
         let h0 : Head = written_head_as a.order a.fields a.metadata a.chosen in
         let head : h0 ≡ head_of_file b = rw (order, fields, metadata, ids) refl in
         let first_bytes : bytes ≡ file_head ++ message_bytes may.begins.message [] = same ∙ may.begins.bytes_are in
@@ -234,6 +237,40 @@ open_same is_stream a b bytes cs same place h = record {
   last = rw (same.dictionaries, same.blocks, place) h.last;
 }
 
+-- ---- other pairs
+
+module _ {W : Type 0} (d : Device W) (a b : FileSeen W) (pairs : Pairs) (t : TakesPairs a b pairs) where
+  pairs_head : head_of_file a ≡ head_of_file b
+  pairs_head = rw (t.order, t.fields, t.metadata, t.ids) refl
+
+  pairs_file : (is_stream : Bool) (s : WriterState) (bytes : List ℕ) (cs : List Chunk) → fault_if_over s ≡ None → FileIs is_stream s a bytes cs → FileIs is_stream s b bytes cs
+  pairs_file is_stream New bytes cs e h = record { none = h.none; no_chunks = h.no_chunks; nothing = λ id. t.remembers id ∙ h.nothing id; no_dictionaries = t.dictionaries ∙ h.no_dictionaries; no_blocks = t.blocks ∙ h.no_blocks }
+  pairs_file is_stream Started bytes cs e h = record {
+    writable = rw (t.fields, t.metadata, t.ids) h.writable;
+    light = rw (t.fields, t.metadata, t.are) t.light;
+    begun = h.begun;
+    long = h.long;
+    file = remembers_same (head_of_file b).schema b.size bytes b.dictionaries b.blocks a.remembers b.remembers cs t.remembers
+        (rw (t.dictionaries, t.blocks, t.size) (subst (λ (x : Head). HoldsFile x.schema a.size bytes a.dictionaries a.blocks a.remembers cs) pairs_head h.file));
+    stream = λ is_one. stream_same bytes bytes (head_of_file a) (head_of_file b) a.remembers b.remembers cs cs refl pairs_head t.remembers refl (h.stream is_one);
+    place = t.place ∙ h.place;
+    natural = rw (t.dictionaries, t.blocks) h.natural;
+    reached = rw (t.dictionaries, t.blocks, t.place) h.reached;
+    last = rw (t.dictionaries, t.blocks, t.place) h.last;
+  }
+  pairs_file is_stream Finished bytes cs e h = let other : Some faults.Finished ≡ None = e in absurd cc
+  pairs_file is_stream Failed bytes cs e h = let other : Some faults.Failed ≡ None = e in absurd cc
+
+  -- Other pairs change no chunk.
+  pub pairs_remain : Remains d a b
+  pairs_remain = record {
+    kept = λ k is_stream base cs h. record {
+      bytes = h.bytes;
+      held = ap (λ (w : W). before (d.memory w)) t.device ∙ h.held;
+      file = at_state is_stream a.state b.state b h.bytes cs (sym t.state) (pairs_file is_stream a.state h.bytes cs t.open_state h.file);
+    };
+  }
+
 -- how far an ending reaches
 ending-length : (zeros : ℕ) (behind : List ℕ) → length (prefix 0 ++ (replicate zeros 0 ++ behind)) ≡ 8 + (zeros + length behind)
 ending-length zeros behind = let zero_byte : ℕ = 0 in omega (arith, length-append (replicate zeros zero_byte) behind, length-replicate zeros zero_byte)
@@ -241,10 +278,10 @@ ending-length zeros behind = let zero_byte : ℕ = 0 in omega (arith, length-app
 pub ending-reaches : {W : Type 0} (w : FileSeen W) (bytes : List ℕ) → IsEnding w bytes → w.size ≤ w.place + length bytes
 ending-reaches w bytes ends = omega (arith, ends.zeros_are, ap length ends.bytes_are, ending-length ends.zeros (ends.footer ++ tail_of ends.footer))
 
-module _ {W : Type 0} (known grows : Bool) (failures room : W → ℕ) (memory : W → Memory) (a b : FileSeen W) where
+module _ {W : Type 0} (d : Device W) (a b : FileSeen W) where
   -- A device failed after a file that was started.
   pub finish_broken : (e : Fault) (bytes : List ℕ) → a.state ≡ Started → b.state ≡ Failed → SameBlocks a b
-      → Delivers {X = Unit {0}} known grows (seen_by failures room memory a.device) (seen_by failures room memory b.device) (Err e) bytes → Remains known memory a b
+      → Delivers {X = Unit {0}} d bytes a.device (Err e) b.device → Remains d a b
   finish_broken e bytes was is same sent = record {
     kept = λ k is_stream base cs h.
         let open_file : IsOpenFile is_stream a h.bytes cs = at_state is_stream a.state Started a h.bytes cs was h.file in
@@ -252,7 +289,7 @@ module _ {W : Type 0} (known grows : Bool) (failures room : W → ℕ) (memory :
         let all : List ℕ = h.bytes ++ take part.count bytes in
         record {
           bytes = all;
-          held = held_more (memory a.device) (memory b.device) base h.bytes (take part.count bytes) h.held part.over;
+          held = held_more (d.memory a.device) (d.memory b.device) base h.bytes (take part.count bytes) h.held part.over;
           file = at_state is_stream Failed b.state b all cs (sym is)
               (file_same a b all cs same (grow_law (head_of_file a).schema a.size h.bytes (take part.count bytes) a.dictionaries a.blocks a.remembers cs open_file.file));
         };
@@ -260,7 +297,7 @@ module _ {W : Type 0} (known grows : Bool) (failures room : W → ℕ) (memory :
 
   -- the last bytes were sent
   pub finished : (e : Ending) → MayFinish a e → b.state ≡ Finished → SameBlocks a b → b.place ≡ a.place
-      → Delivers {X = Unit {0}} known grows (seen_by failures room memory a.device) (seen_by failures room memory b.device) (Ok tt) (ending_bytes e) → Remains known memory a b
+      → Delivers {X = Unit {0}} d (ending_bytes e) a.device (Ok tt) b.device → Remains d a b
   finished e may is same place sent = record {
     kept = λ k is_stream base cs h.
         let open_file : IsOpenFile is_stream a h.bytes cs = at_state is_stream a.state Started a h.bytes cs may.was h.file in
@@ -279,7 +316,7 @@ module _ {W : Type 0} (known grows : Bool) (failures room : W → ℕ) (memory :
         let whole = end_law a.order a.fields a.metadata a.ids a.pairs a.size h.bytes rest all footer a.dictionaries a.blocks a.remembers cs open_file.file refl long has ends.short ends.writes.means in
         record {
           bytes = all;
-          held = held_more (memory a.device) (memory b.device) base h.bytes rest h.held (subst (λ (xs : List ℕ). WritesOver (memory a.device) (memory b.device) xs) ends.bytes_are (sent.memory k));
+          held = held_more (d.memory a.device) (d.memory b.device) base h.bytes rest h.held (subst (λ (xs : List ℕ). WritesOver (d.memory a.device) (d.memory b.device) xs) ends.bytes_are (sent.memory k));
           file = at_state is_stream Finished b.state b all cs (sym is) (record {
             file = rw (same.order, same.fields, same.metadata, same.ids, same.pairs, same.dictionaries, same.blocks) whole;
             stream = λ is_one. subst (λ (h : Head). EndsStreamBehind all h cs) (head_same a b same) (stream_end_law h.bytes (gap ++ (footer ++ tail_of footer)) (head_of_file a) a.remembers cs (open_file.stream is_one));
@@ -293,21 +330,21 @@ module _ {W : Type 0} (known grows : Bool) (failures room : W → ℕ) (memory :
   }
 
   -- The file ends no earlier than the one that is appended to.
-  pub reaches_end : (e : Ending) → MayFinish a e → Delivers {X = Unit {0}} known grows (seen_by failures room memory a.device) (seen_by failures room memory b.device) (Ok tt) (ending_bytes e)
-      → ReachesEnd known memory a b
+  pub reaches_end : (e : Ending) → MayFinish a e → Delivers {X = Unit {0}} d (ending_bytes e) a.device (Ok tt) b.device
+      → ReachesEnd d a b
   reaches_end e may sent = record { reaches = λ k at. let moved = (sent.memory k).place in omega (arith, at, moved, ending-reaches a (ending_bytes e) may.ends) }
 
 -- ---- a chunk
 
-module _ {W : Type 0} (known grows : Bool) (failures room : W → ℕ) (memory : W → Memory) (a b : FileSeen W) where
+module _ {W : Type 0} (d : Device W) (a b : FileSeen W) where
   -- nothing was sent
-  pub stays : a.state ≡ Started → b.state ≡ Started → SameBlocks a b → b.place ≡ a.place → b.device ≡ a.device → (is_stream : Bool) (base : List ℕ) (cs : List Chunk) → HoldsBytes is_stream (memory a.device) a base cs
-      → HoldsBytes is_stream (memory b.device) b base cs
+  pub stays : a.state ≡ Started → b.state ≡ Started → SameBlocks a b → b.place ≡ a.place → b.device ≡ a.device → (is_stream : Bool) (base : List ℕ) (cs : List Chunk) → HoldsBytes is_stream (d.memory a.device) a base cs
+      → HoldsBytes is_stream (d.memory b.device) b base cs
   stays was is same place device is_stream base cs h =
       let open_file : IsOpenFile is_stream a h.bytes cs = at_state is_stream a.state Started a h.bytes cs was h.file in
       record {
         bytes = h.bytes;
-        held = ap (λ (w : W). before (memory w)) device ∙ h.held;
+        held = ap (λ (w : W). before (d.memory w)) device ∙ h.held;
         file = at_state is_stream Started b.state b h.bytes cs (sym is) (open_same is_stream a b h.bytes cs same place open_file);
       }
 
@@ -315,15 +352,15 @@ module _ {W : Type 0} (known grows : Bool) (failures room : W → ℕ) (memory :
   pub written : (columns : List Layout) (ws : List Sent) (own : Sent) (given : List ℕ) → a.state ≡ Started → b.state ≡ Started → SendsChunk a.order a.fields a.ids a.remembers b.remembers columns ws own
       → b.order ≡ a.order → b.fields ≡ a.fields → b.metadata ≡ a.metadata → b.ids ≡ a.ids → b.pairs ≡ a.pairs → b.size ≡ a.size
       → b.dictionaries ≡ a.dictionaries ++ blocks_at a.place ws → b.blocks ≡ a.blocks ++ block_at (a.place + length (all_bytes ws)) own ∷ [] → b.place ≡ a.place + length (chunk_bytes ws own)
-      → given ≡ chunk_bytes ws own → Delivers {X = Unit {0}} known grows (seen_by failures room memory a.device) (seen_by failures room memory b.device) (Ok tt) given
-      → IsTrue known → (is_stream : Bool) (base : List ℕ) (cs : List Chunk) → HoldsBytes is_stream (memory a.device) a base cs → HoldsBytes is_stream (memory b.device) b base (cs ++ chunk_written columns ∷ [])
+      → given ≡ chunk_bytes ws own → Delivers {X = Unit {0}} d given a.device (Ok tt) b.device
+      → IsTrue d.is_memory → (is_stream : Bool) (base : List ℕ) (cs : List Chunk) → HoldsBytes is_stream (d.memory a.device) a base cs → HoldsBytes is_stream (d.memory b.device) b base (cs ++ chunk_written columns ∷ [])
   written columns ws own given was is sends order fields metadata ids pairs size dictionaries blocks place bytes_are sent k is_stream base cs h =
       let open_file : IsOpenFile is_stream a h.bytes cs = at_state is_stream a.state Started a h.bytes cs was h.file in
       let added = chunk_bytes ws own in
       let all : List ℕ = h.bytes ++ added in
       let then : List Chunk = cs ++ chunk_written columns ∷ [] in
       let head : head_of_file a ≡ head_of_file b = rw (order, fields, metadata, ids) refl in
-      let over = subst (λ (xs : List ℕ). WritesOver (memory a.device) (memory b.device) xs) bytes_are (sent.memory k) in
+      let over = subst (λ (xs : List ℕ). WritesOver (d.memory a.device) (d.memory b.device) xs) bytes_are (sent.memory k) in
       let at = open_file.place in
       let longer = length-append h.bytes added in
       let file = write_law a.order a.fields a.metadata a.ids a.size h.bytes a.dictionaries a.blocks a.remembers b.remembers cs columns ws own open_file.writable open_file.file sends in
@@ -331,7 +368,7 @@ module _ {W : Type 0} (known grows : Bool) (failures room : W → ℕ) (memory :
       let bs : b.blocks ≡ a.blocks ++ block_at (length h.bytes + length (all_bytes ws)) own ∷ [] = blocks ∙ ap (λ (n : ℕ). a.blocks ++ block_at (n + length (all_bytes ws)) own ∷ []) at in
       record {
         bytes = all;
-        held = held_more (memory a.device) (memory b.device) base h.bytes added h.held over;
+        held = held_more (d.memory a.device) (d.memory b.device) base h.bytes added h.held over;
         file = at_state is_stream Started b.state b all then (sym is) (record {
           writable = rw (fields, metadata, ids) open_file.writable;
           light = rw (fields, metadata, pairs) open_file.light;

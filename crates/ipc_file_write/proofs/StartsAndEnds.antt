@@ -1,8 +1,9 @@
 -- A file writer starts, and finishes its file, exactly if it may.
-use Rattle.std.proofs.Common.{◌≡◌, ◌⊎◌, ℕ, Bool, Result, Ok, Err, Option, None, Some, IfSome, refl, sym, ap, subst, inl, inr}
+use Rattle.std.proofs.Common.{◌≡◌, ◌⊎◌, ℕ, true, IsTrue, List, [], length, Result, Ok, Err, Option, None, Some, IfSome, refl, sym, ap, subst, inl, inr, append-nil}
 use Rattle.std.proofs.lemmas.Grind.{merely}
+use Rattle.lower.specs.TypeTrees.{Pairs}
 use Rattle.ipc_base.specs.IdTrees.{IdTrees, all_ids_view}
-use Rattle.ipc_devices.specs.Device.{Memory as DeviceMemory}
+use Rattle.ipc_devices.specs.Device.{Device, before}
 use Rattle.ipc_devices.specs.Faults.{IsIo, OnIo}
 use Rattle.ipc_devices.specs.declared.fault.ArgFault.TheVariants.{FieldsShape, NotWritable, TooLarge}
 use Rattle.ipc_devices.specs.declared.fault.Fault.{Fault}
@@ -10,11 +11,13 @@ use Rattle.ipc_devices.specs.declared.fault.Fault.TheVariants.{Argument, Io, Mem
 use Rattle.ipc_devices.specs.declared.fault.StateFault.{StateFault}
 use Rattle.ipc_devices.specs.declared.fault.StateFault.TheVariants as faults
 use Rattle.ipc_model.specs.Writable.{IsWritable}
-use Rattle.ipc_write.specs.Writers.{fault_unless_new, fault_unless_started}
+use Rattle.ipc_stream_lemmas.specs.Remembered.{nothing_remembered}
+use Rattle.ipc_write.specs.Sending.{Delivers}
+use Rattle.ipc_write.specs.Writers.{RefusesState, fault_unless_new, fault_unless_started}
 use Rattle.ipc_write.specs.declared.stream.WriterState.{WriterState}
 use Rattle.ipc_write.specs.declared.stream.WriterState.TheVariants.{New, Started, Finished, Failed}
 use Rattle.ipc_file_write.specs.Beginnings.{BeginningFails}
-use Rattle.ipc_file_write.specs.FileWriters.{AnswersFinish, AnswersStart, FileSeen, MayStart, RefusesFinish, RefusesStart, SendsBeginning, StateComesFirst}
+use Rattle.ipc_file_write.specs.FileWriters.{Agrees, AnswersFinish, AnswersStart, FileIs, FileSeen, FileStep, HasNothing, IsBeginning, IsEnding, IsSameFile, MayStart, OrFails, RefusesFinish, RefusesStart, Remains, SendsBeginning, SendsEnding, StateComesFirst, TakesNoPairs, fault_if_over}
 use Rattle.ipc_file_write.specs.Keeping.{StaysWritable}
 use Rattle.ipc_file_write.specs.declared.writer.Starting.{Starting}
 use Rattle.ipc_file_write.proofs.Keeping.{started_keeps}
@@ -30,6 +33,9 @@ first_passed a b r was = rw was tt
 
 pub first_new : {W : Type 0} (a b : FileSeen W) (r : Result (Unit {0}) Fault) → a.state ≡ New → StateComesFirst (fault_unless_new a.state) a r b
 first_new a b r was = rw was tt
+
+pub first_open : {W : Type 0} (a b : FileSeen W) (r : Result (Unit {0}) Fault) → fault_if_over a.state ≡ None → StateComesFirst (fault_if_over a.state) a r b
+first_open a b r was = rw was tt
 
 -- The state that an error reports which is checked first.
 pub state_fault : {X : Type 0} (s : WriterState) (e : Fault) (r : Result X Fault) → r ≡ Err e → IfSome (fault_unless_started s) (λ f. r ≡ Err (State f)) → (s ≡ Started) ⊎ ((s ≡ Started → ⊥) × (f : StateFault) × (e ≡ State f))
@@ -55,16 +61,75 @@ start_failed w (Io x) h = (tt, tt)
 start_failed w _ h = absurd h
 
 -- The device that failed there is that of the writer that is left.
-pub begin_fails : {W : Type 0} (known grows : Bool) (failures room : W → ℕ) (memory : W → DeviceMemory) (a b : FileSeen W) (e : Fault) → SendsBeginning known grows failures room memory a (Err e) b
-    → OnIo {X = Unit {0}} (Err e) (BeginningFails grows failures room a)
-begin_fails known grows failures room memory a b (Io x) s = record { bytes = s.bytes; begins = s.is; after = b.device; fails = s.step.io.1 }
-begin_fails known grows failures room memory a b _ s = tt
+pub begin_fails : {W : Type 0} (d : Device W) (a b : FileSeen W) (e : Fault) → SendsBeginning d a (Err e) b
+    → OnIo {X = Unit {0}} (Err e) (BeginningFails d a)
+begin_fails d a b (Io x) s = record { bytes = s.bytes; begins = s.is; after = b.device; fails = s.step.io.1 }
+begin_fails d a b _ s = tt
 
 pub start_taken : {W : Type 0} (w : FileSeen W) (s : Starting) → MayStart w s → AnswersStart w (Ok tt)
 start_taken w s may = record { new = may.was; writable = record { schema = may.writable; light = may.light } }
 
 pub start_keeps : {W : Type 0} (w : FileSeen W) (s : Starting) → MayStart w s → ∥ StaysWritable Started w.fields w.metadata (all_ids_view s.ipc_fields.items) w.pairs ∥₁
 start_keeps w s may = merely (record { schema = subst (λ (is : IdTrees). IsWritable w.fields w.metadata is) (sym may.ids) may.writable; light = may.light })
+
+-- ---- errors
+
+-- an error that isn't the device's, or may be
+pub or_fails : (P : Fault → Type 0) (e : Fault) → P e → OrFails P e
+or_fails P (Io x) h = tt
+or_fails P _ h = h
+
+pub io_or_fails : (P : Fault → Type 0) (e : Fault) → IsIo e → OrFails P e
+io_or_fails P (Io x) h = tt
+io_or_fails P _ h = absurd h
+
+-- a state in which no pairs are set
+pub state_no_pairs : {W : Type 0} (w : FileSeen W) (pairs : Pairs) (e : Fault) → RefusesState (fault_if_over w.state) e → TakesNoPairs w pairs e
+state_no_pairs w pairs (State x) h = h
+state_no_pairs w pairs _ h = absurd h
+
+-- ---- what was sent
+
+-- all bytes
+sent_step : {W : Type 0} (d : Device W) (a b : FileSeen W) (bytes : List ℕ) → IsSameFile a b → Delivers {X = Unit {0}} d bytes a.device (Ok tt) b.device → FileStep d a (Ok tt) b bytes
+sent_step d a b bytes same h = record { same = same; monotone = h.monotone; io = tt; refused = tt; done = h.done; all_sent = h.memory; some_sent = h.part; names = h.names }
+
+-- the device failed on the way
+failed_step : {W : Type 0} (d : Device W) (a b : FileSeen W) (x : _) (bytes : List ℕ) → IsSameFile a b → b.state ≡ Failed → Delivers {X = Unit {0}} d bytes a.device (Err (Io x)) b.device → FileStep d a (Err (Io x)) b bytes
+failed_step d a b x bytes same is h = record { same = same; monotone = h.monotone; io = (is, h.failed); refused = tt; done = tt; all_sent = λ k. tt; some_sent = h.part; names = h.names }
+
+module _ {W : Type 0} (d : Device W) (a b : FileSeen W) (bytes : List ℕ) (same : IsSameFile a b) where
+  pub beginning_sent : IsBeginning a bytes → b.place ≡ length bytes → Delivers {X = Unit {0}} d bytes a.device (Ok tt) b.device → SendsBeginning d a (Ok tt) b
+  beginning_sent begins place h = record { bytes = bytes; is = begins; place = place; step = sent_step d a b bytes same h }
+
+  pub beginning_broken : (e : Fault) → IsBeginning a bytes → b.state ≡ Failed → Delivers {X = Unit {0}} d bytes a.device (Err e) b.device → SendsBeginning d a (Err e) b
+  beginning_broken (Io x) begins is h = record { bytes = bytes; is = begins; place = tt; step = failed_step d a b x bytes same is h }
+  beginning_broken _ begins is h = absurd h.only
+
+  pub ending_sent : IsEnding a bytes → Delivers {X = Unit {0}} d bytes a.device (Ok tt) b.device → SendsEnding d a (Ok tt) b
+  ending_sent ends h = record { bytes = bytes; is = ends; step = sent_step d a b bytes same h }
+
+  pub ending_broken : (e : Fault) → IsEnding a bytes → b.state ≡ Failed → Delivers {X = Unit {0}} d bytes a.device (Err e) b.device → SendsEnding d a (Err e) b
+  ending_broken (Io x) ends is h = record { bytes = bytes; is = ends; step = failed_step d a b x bytes same is h }
+  ending_broken _ ends is h = absurd h.only
+
+-- ---- new writers
+
+-- A new writer has written nothing.
+pub nothing_yet : {W : Type 0} (d : Device W) (w : FileSeen W) → w.state ≡ New → ((id : _) → w.remembers id ≡ nothing_remembered id) → w.dictionaries ≡ [] → w.blocks ≡ [] → w.size ≡ 0 → HasNothing d w
+nothing_yet d w is nothing no_dictionaries no_blocks new_file = record {
+  agrees = record {
+    bytes = [];
+    held = sym (append-nil (before (d.memory w.device)));
+    file = subst (λ (s : WriterState). FileIs true s w [] []) (sym is) (record { none = refl; no_chunks = refl; nothing = nothing; no_dictionaries = no_dictionaries; no_blocks = no_blocks });
+  };
+  new_file = new_file;
+}
+
+-- Its file comes after the bytes that were on its device.
+module _ {W : Type 0} (d : Device W) (given : W) (a b : FileSeen W) where
+  pub begins_at : a.device ≡ given → HasNothing d a → Remains d a b → IsTrue d.is_memory → Agrees d b (before (d.memory given)) []
+  begins_at is nothing remains k = subst (λ (w : W). Agrees d b (before (d.memory w)) []) is (remains.kept k true (before (d.memory a.device)) [] nothing.agrees)
 
 -- ---- the end
 

@@ -1,6 +1,6 @@
 -- What the calls of a new file writer in memory left, and why the file isn't finished.
-use Rattle.std.proofs.Common.{◌≡◌, ℕ, ◌-◌, true, List, [], None, Some, Result, Err, refl, sym, ap, ◌∙◌, subst, inl, inr}
-use Rattle.std.specs.Prelude.{◌⊎◌, Vec, vec_capacity, vec_len}
+use Rattle.std.proofs.Common.{◌≡◌, ℕ, true, List, [], None, Some, Result, Err, refl, sym, ap, ◌∙◌, subst, inl, inr}
+use Rattle.std.specs.Prelude.{◌⊎◌, Vec}
 use Rattle.std.specs.declared.alloc.Global.{Global}
 use Rattle.lower.specs.TypeTrees.{FieldTrees, Pairs}
 use Rattle.lower_types.specs.declared.Endianness.{Endianness}
@@ -16,7 +16,7 @@ use Rattle.ipc_devices.specs.declared.fault.StateFault.TheVariants as states
 use Rattle.ipc_model.specs.WriterStates.{IsRun, Writer, new_writer}
 use Rattle.ipc_write.specs.Calls.{ended_as, state_seen}
 use Rattle.ipc_write.proofs.Vectors.{is_full}
-use Rattle.ipc_write.specs.Vectors.{HasNoRoom, vector_room}
+use Rattle.ipc_write.specs.Vectors.{HasNoRoom, vectors}
 use Rattle.ipc_write.specs.Writers.{fault_unless_started}
 use Rattle.ipc_write.specs.declared.calls.StreamCall.{StreamCall}
 use Rattle.ipc_write.specs.declared.stream.WriterState.{WriterState}
@@ -57,7 +57,7 @@ module _ (a b : FileSeen (Vec ℕ Global)) (going : a.state ≡ Finished → ⊥
   refuses_end _ first only misses full = absurd misses
 
 -- The writer returns an error of its memory.
-pub ending_full : (a b : FileSeen (Vec ℕ Global)) (e : Fault) → SendsEnding true true (λ v. 0) vector_room vector a (Err e) b → IsIo e → HasNoRoom a.device (IsEnding a)
+pub ending_full : (a b : FileSeen (Vec ℕ Global)) (e : Fault) → SendsEnding vectors a (Err e) b → IsIo e → HasNoRoom a.device (IsEnding a)
 ending_full a b (faults.Io x) s io = record { bytes = s.bytes; are = s.is; full = is_full _ _ s.step.io.1 }
 ending_full a b _ s io = absurd io
 
@@ -74,16 +74,16 @@ module _ (a b : FileSeen (Vec ℕ Global)) (fs : FieldTrees) (es : Pairs) (is : 
     pairs_are = takes.are;
   }
 
-empty_first : (a b : FileSeen (Vec ℕ Global)) → HasNothing vector a → a.device.items ≡ [] → Remains true vector a b → Agrees vector b [] []
+empty_first : (a b : FileSeen (Vec ℕ Global)) → HasNothing vectors a → a.device.items ≡ [] → Remains vectors a b → Agrees vectors b [] []
 empty_first a b nothing empty remains =
     let none : before (vector a.device) ≡ [] = vector_before a.device ∙ empty in
-    let first : Agrees vector a [] [] = subst (λ (xs : List ℕ). Agrees vector a xs []) none nothing.agrees in
+    let first : Agrees vectors a [] [] = subst (λ (xs : List ℕ). Agrees vectors a xs []) none nothing.agrees in
     remains.kept refl true [] [] first
 
 module _ (b w : FileSeen (Vec ℕ Global)) (calls : List StreamCall) (answers : List (Result (Unit {0}) Fault)) (fs : FieldTrees) (es : Pairs) (is : IdTrees) (order : Endianness) (pairs : Pairs)
-    (of : IsFileOf b fs es is order pairs) (new : b.state ≡ New) (empty : Agrees vector b [] []) (made : AreMade true true (λ v. 0) (λ v. vec_capacity v - vec_len v) vector b calls answers w) where
-  all_move : AllMove true vector b calls answers w
-  all_move = moves_all true true (λ v. 0) (λ v. vec_capacity v - vec_len v) vector b w calls answers made
+    (of : IsFileOf b fs es is order pairs) (new : b.state ≡ New) (empty : Agrees vectors b [] []) (made : AreMade vectors b calls answers w) where
+  all_move : AllMove vectors b calls answers w
+  all_move = moves_all vectors b w calls answers made
 
   begins : writer_seen b ≡ writer_in order pairs new_writer
   begins =
@@ -98,14 +98,14 @@ module _ (b w : FileSeen (Vec ℕ Global)) (calls : List StreamCall) (answers : 
     file = of;
     empty = empty;
     made = made;
-    run = subst (λ (v : Writer). IsRun v (ended_as calls answers) (writer_seen w)) begins (moves_run true vector b w calls answers all_move);
-    holds = (moves_follow true vector b w calls answers all_move).followed refl [] [] empty;
+    run = subst (λ (v : Writer). IsRun v (ended_as calls answers) (writer_seen w)) begins (moves_run vectors b w calls answers all_move);
+    holds = (moves_follow vectors b w calls answers all_move).followed refl [] [] empty;
   }
 
 -- what `run_calls` left of a new writer
 pub left_after : (a b w : FileSeen (Vec ℕ Global)) (calls : List StreamCall) (answers : List (Result (Unit {0}) Fault)) (fs : FieldTrees) (es : Pairs) (is : IdTrees) (order : Endianness) (pairs : Pairs)
-    → IsFileOf a fs es is order [] → a.state ≡ New → HasNothing vector a → a.device.items ≡ [] → TakesPairs a b pairs → Remains true vector a b
-    → AreMade true true (λ v. 0) (λ v. vec_capacity v - vec_len v) vector b calls answers w → Leave order fs es is pairs calls answers w
+    → IsFileOf a fs es is order [] → a.state ≡ New → HasNothing vectors a → a.device.items ≡ [] → TakesPairs a b pairs → Remains vectors a b
+    → AreMade vectors b calls answers w → Leave order fs es is pairs calls answers w
 left_after a b w calls answers fs es is order pairs of new nothing empty takes remains made =
     left_by b w calls answers fs es is order pairs (file_of_pairs a b fs es is order pairs of takes) (takes.state ∙ new) (empty_first a b nothing empty remains) made
 

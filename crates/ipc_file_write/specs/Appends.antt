@@ -2,7 +2,7 @@
 -- (Arrow columnar format, "IPC File Format"; the limits are this project's own.)
 use Rattle.std.specs.Prelude.{◌≡◌, ◌⊎◌, ℕ, ℤ, ◌^◌, ◌<◌, ◌≤◌, Bool, IsTrue, List, [], ◌++◌, map, Some, None}
 use Rattle.lower.specs.TypeViews.{fields_view, pairs_of}
-use Rattle.ipc_devices.specs.Device.{GoesTo, Memory, Rises}
+use Rattle.ipc_devices.specs.Device.{Device, GoesTo, Rises}
 use Rattle.ipc_devices.specs.Faults.{OwnFault}
 use Rattle.ipc_devices.specs.declared.fault.ArgFault.TheVariants.{FieldsShape, NoRecordBlocks, NotWritable, TooLarge}
 use Rattle.ipc_devices.specs.declared.fault.Fault.{Fault}
@@ -107,7 +107,7 @@ pub record RemembersFile (m : FileMetadata) (bytes : List ℕ) (r : Remembered) 
 
 -- A writer appends to a file: it has the file's byte order, schema, ids, pairs, blocks and
 -- dictionaries, and is at the append position. No byte of the file has changed.
-pub record GoesOn {W : Type 0} (known : Bool) (memory : W → Memory) (m : FileMetadata) (device : W) (w : FileSeen W) : Type 0 where
+pub record GoesOn {W : Type 0} (d : Device W) (m : FileMetadata) (device : W) (w : FileSeen W) : Type 0 where
   pub may : MayGoOn m
   pub state : w.state ≡ Started
   pub order : w.order ≡ m.schema.order
@@ -119,31 +119,31 @@ pub record GoesOn {W : Type 0} (known : Bool) (memory : W → Memory) (m : FileM
   pub blocks : w.blocks ≡ m.blocks
   pub size : w.size ≡ m.size
   pub place : w.place ≡ goes_on m
-  pub stands : IsTrue known → GoesTo (memory device) (memory w.device) (goes_on m)
-  pub remembers : IsTrue known → RemembersFile m (memory device).whole w.remembers
+  pub stands : IsTrue d.is_memory → GoesTo (d.memory device) (d.memory w.device) (goes_on m)
+  pub remembers : IsTrue d.is_memory → RemembersFile m (d.memory device).whole w.remembers
 
 -- A writer appends to a file, and no call of its device failed.
-pub record OpensFile {W : Type 0} (known : Bool) (failures : W → ℕ) (memory : W → Memory) (m : FileMetadata) (device : W) (w : FileSeen W) : Type 0 where
-  pub goes_on : GoesOn known memory m device w
-  pub done : failures w.device ≡ failures device
+pub record OpensFile {W : Type 0} (d : Device W) (m : FileMetadata) (device : W) (w : FileSeen W) : Type 0 where
+  pub goes_on : GoesOn d m device w
+  pub done : d.failures w.device ≡ d.failures device
 
 -- If the file had these chunks, and its blocks need no byte after the append position, the writer's
 -- chunks come after them. The earlier chunks are seen in the normal form of the schema.
-abbrev pub GoesOnWith : {W : Type 0} → Bool → (W → Memory) → FileMetadata → W → FileSeen W → Type 0
-GoesOnWith known memory m device w =
-    IsTrue known → metadata_of (memory device).whole ≡ Some m → (dictionaries : Dictionaries) (cs : List Chunk) → MeansBefore m (memory device).whole dictionaries cs
-    → AgreesAlone memory w [] (map normal_chunk cs)
+abbrev pub GoesOnWith : {W : Type 0} → Device W → FileMetadata → W → FileSeen W → Type 0
+GoesOnWith d m device w =
+    IsTrue d.is_memory → metadata_of (d.memory device).whole ≡ Some m → (dictionaries : Dictionaries) (cs : List Chunk) → MeansBefore m (d.memory device).whole dictionaries cs
+    → AgreesAlone d w [] (map normal_chunk cs)
 
 -- If the file was finished by a writer, the new writer's chunks come after its chunks; the file
 -- is also a stream if it was one.
-abbrev pub GoesOnAgain : {W : Type 0} → Bool → (W → Memory) → FileMetadata → W → FileSeen W → Type 0
-GoesOnAgain known memory m device w =
-    IsTrue known → metadata_of (memory device).whole ≡ Some m → (is_stream : Bool) (before : FileSeen (Unit {0})) (cs : List Chunk) → IsWholeFile is_stream before (memory device).whole cs
-    → HoldsBytes is_stream (memory w.device) w [] cs
+abbrev pub GoesOnAgain : {W : Type 0} → Device W → FileMetadata → W → FileSeen W → Type 0
+GoesOnAgain d m device w =
+    IsTrue d.is_memory → metadata_of (d.memory device).whole ≡ Some m → (is_stream : Bool) (before : FileSeen (Unit {0})) (cs : List Chunk) → IsWholeFile is_stream before (d.memory device).whole cs
+    → HoldsBytes is_stream (d.memory w.device) w [] cs
 
 -- Unless an allocation or the device fails, no file is refused that a writer finished and that has
 -- a record block and fewer than 2 ^ 63 bytes.
-abbrev pub RefusesNoWhole : {W : Type 0} → Bool → (W → Memory) → FileMetadata → W → Fault → Type 0
-RefusesNoWhole known memory m device e =
-    OwnFault e (IsTrue known → metadata_of (memory device).whole ≡ Some m → (is_stream : Bool) (before : FileSeen (Unit {0})) (cs : List Chunk) → IsWholeFile is_stream before (memory device).whole cs
+abbrev pub RefusesNoWhole : {W : Type 0} → Device W → FileMetadata → W → Fault → Type 0
+RefusesNoWhole d m device e =
+    OwnFault e (IsTrue d.is_memory → metadata_of (d.memory device).whole ≡ Some m → (is_stream : Bool) (before : FileSeen (Unit {0})) (cs : List Chunk) → IsWholeFile is_stream before (d.memory device).whole cs
     → (m.blocks ≡ [] → ⊥) → m.size < 2 ^ 63 → ⊥)

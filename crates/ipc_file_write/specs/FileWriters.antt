@@ -6,7 +6,7 @@ use Rattle.lower.specs.TypeViews.{fields_view, pairs_of}
 use Rattle.lower_types.specs.declared.Endianness.{Endianness}
 use Rattle.ipc_base.specs.Fitting.{AllFit}
 use Rattle.ipc_base.specs.IdTrees.{IdTrees, all_ids_view}
-use Rattle.ipc_devices.specs.Device.{Memory, WritesOver, before}
+use Rattle.ipc_devices.specs.Device.{Device, Memory, WritesOver, before}
 use Rattle.ipc_devices.specs.Faults.{OnIo, OnRefused, OwnFault}
 use Rattle.ipc_devices.specs.declared.fault.ArgFault.TheVariants.{FieldsShape, NotWritable, TooLarge}
 use Rattle.ipc_devices.specs.declared.fault.Fault.{Fault}
@@ -151,22 +151,22 @@ pub record HoldsBytes {W : Type 0} (is_stream : Bool) (m : Memory) (w : FileSeen
 
 -- The device of a writer has the bytes `base`, and then a file of these
 -- chunks, which is a stream too.
-abbrev pub Agrees : {W : Type 0} → (W → Memory) → FileSeen W → List ℕ → List Chunk → Type 0
-Agrees memory w base cs = HoldsBytes true (memory w.device) w base cs
+abbrev pub Agrees : {W : Type 0} → Device W → FileSeen W → List ℕ → List Chunk → Type 0
+Agrees d w base cs = HoldsBytes true (d.memory w.device) w base cs
 
 -- The device of a writer has the bytes `base`, and then a file of these chunks, which may be no
 -- stream, since another program wrote its beginning.
-abbrev pub AgreesAlone : {W : Type 0} → (W → Memory) → FileSeen W → List ℕ → List Chunk → Type 0
-AgreesAlone memory w base cs = HoldsBytes false (memory w.device) w base cs
+abbrev pub AgreesAlone : {W : Type 0} → Device W → FileSeen W → List ℕ → List Chunk → Type 0
+AgreesAlone d w base cs = HoldsBytes false (d.memory w.device) w base cs
 
 -- The file has the chunks that it had, and is a stream if it was one.
-pub record Remains {W : Type 0} (known : Bool) (memory : W → Memory) (a b : FileSeen W) : Type 0 where
-  pub kept : IsTrue known → (is_stream : Bool) (base : List ℕ) (cs : List Chunk) → HoldsBytes is_stream (memory a.device) a base cs
-      → HoldsBytes is_stream (memory b.device) b base cs
+pub record Remains {W : Type 0} (d : Device W) (a b : FileSeen W) : Type 0 where
+  pub kept : IsTrue d.is_memory → (is_stream : Bool) (base : List ℕ) (cs : List Chunk) → HoldsBytes is_stream (d.memory a.device) a base cs
+      → HoldsBytes is_stream (d.memory b.device) b base cs
 
 -- A new writer that has written nothing, whatever bytes precede it, and doesn't append to a file.
-pub record HasNothing {W : Type 0} (memory : W → Memory) (w : FileSeen W) : Type 0 where
-  pub agrees : Agrees memory w (before (memory w.device)) []
+pub record HasNothing {W : Type 0} (d : Device W) (w : FileSeen W) : Type 0 where
+  pub agrees : Agrees d w (before (d.memory w.device)) []
   pub new_file : w.size ≡ 0
 
 -- ---- calls
@@ -198,14 +198,15 @@ pub record IsSameFile {W : Type 0} (a b : FileSeen W) : Type 0 where
 
 -- What a call that sends these bytes does to its device, and what a refused call leaves. If it
 -- returns Ok, no call of the device failed.
-pub record FileStep {W : Type 0} (known grows : Bool) (failures room : W → ℕ) (memory : W → Memory) (a : FileSeen W) (r : Result Unit Fault) (b : FileSeen W) (bytes : List ℕ) : Type 0 where
+pub record FileStep {W : Type 0} (d : Device W) (a : FileSeen W) (r : Result Unit Fault) (b : FileSeen W) (bytes : List ℕ) : Type 0 where
   pub same : IsSameFile a b
-  pub monotone : failures a.device ≤ failures b.device
-  pub io : OnIo r ((b.state ≡ Failed) × FailsOrIsFull grows (failures a.device) (failures b.device) (room a.device) (length bytes))
+  pub monotone : d.failures a.device ≤ d.failures b.device
+  pub io : OnIo r ((b.state ≡ Failed) × FailsOrIsFull d.grows (d.failures a.device) (d.failures b.device) (d.room a.device) (length bytes))
   pub refused : OnRefused r (Kept a b)
-  pub done : OnOk r (failures b.device ≡ failures a.device)
-  pub all_sent : IsTrue known → OnOk r (WritesOver (memory a.device) (memory b.device) bytes)
-  pub some_sent : IsTrue known → WritesSome (memory a.device) (memory b.device) bytes
+  pub done : OnOk r (d.failures b.device ≡ d.failures a.device)
+  pub all_sent : IsTrue d.is_memory → OnOk r (WritesOver (d.memory a.device) (d.memory b.device) bytes)
+  pub some_sent : IsTrue d.is_memory → WritesSome (d.memory a.device) (d.memory b.device) bytes
+  pub names : d.names b.device ≡ d.names a.device
 
 -- The beginning of a file: the magic bytes, padded to eight, and the schema message,
 -- which has no body. The message begins a stream of what this writer writes, and is
@@ -231,17 +232,17 @@ pub record IsEnding {W : Type 0} (w : FileSeen W) (bytes : List ℕ) : Type 0 wh
   pub bytes_are : bytes ≡ prefix 0 ++ (replicate zeros 0 ++ (footer ++ tail_of footer))
 
 -- A call that sends the beginning of a file, if it sends anything. The next message comes after it.
-pub record SendsBeginning {W : Type 0} (known grows : Bool) (failures room : W → ℕ) (memory : W → Memory) (a : FileSeen W) (r : Result Unit Fault) (b : FileSeen W) : Type 0 where
+pub record SendsBeginning {W : Type 0} (d : Device W) (a : FileSeen W) (r : Result Unit Fault) (b : FileSeen W) : Type 0 where
   pub bytes : List ℕ
   pub is : OnSent r (IsBeginning a bytes)
   pub place : OnOk r (b.place ≡ length bytes)
-  pub step : FileStep known grows failures room memory a r b bytes
+  pub step : FileStep d a r b bytes
 
 -- A call that sends the end of a file, if it sends anything.
-pub record SendsEnding {W : Type 0} (known grows : Bool) (failures room : W → ℕ) (memory : W → Memory) (a : FileSeen W) (r : Result Unit Fault) (b : FileSeen W) : Type 0 where
+pub record SendsEnding {W : Type 0} (d : Device W) (a : FileSeen W) (r : Result Unit Fault) (b : FileSeen W) : Type 0 where
   pub bytes : List ℕ
   pub is : OnSent r (IsEnding a bytes)
-  pub step : FileStep known grows failures room memory a r b bytes
+  pub step : FileStep d a r b bytes
 
 -- Why a writer refuses to start.
 abbrev pub RefusesStart : {W : Type 0} → FileSeen W → Fault → Type 0
@@ -342,8 +343,8 @@ pub record MayFinish {W : Type 0} (w : FileSeen W) (e : Ending) : Type 0 where
 
 -- The file ends no earlier than one that is appended to ended, so no
 -- byte of that is after its footer.
-pub record ReachesEnd {W : Type 0} (known : Bool) (memory : W → Memory) (a b : FileSeen W) : Type 0 where
-  pub reaches : IsTrue known → a.place ≤ (memory a.device).place → a.size ≤ (memory b.device).place
+pub record ReachesEnd {W : Type 0} (d : Device W) (a b : FileSeen W) : Type 0 where
+  pub reaches : IsTrue d.is_memory → a.place ≤ (d.memory a.device).place → a.size ≤ (d.memory b.device).place
 
 -- The error of a state in which a writer accepts no pairs.
 abbrev pub fault_if_over : WriterState → Option StateFault

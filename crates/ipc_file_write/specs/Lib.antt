@@ -1,3 +1,4 @@
+pub mod Api
 pub mod AppendLaws
 pub mod Appends
 pub mod Blocks

@@ -12,7 +12,6 @@ use Rattle.lower_arrays.specs.Layouts.{Layout, layouts, len_of}
 use Rattle.lower_arrays.specs.declared.array.AnyArray.{AnyArray}
 use Rattle.ipc_base.specs.Chunks.{row_count}
 use Rattle.ipc_base.specs.IdTrees.{IdTrees}
-use Rattle.ipc_devices.specs.Device.{Memory}
 use Rattle.ipc_devices.specs.Faults.{IsIo, OnIo, OnRefused, OwnFault}
 use Rattle.ipc_devices.specs.declared.fault.ArgFault.TheVariants.{DictionaryReplaced, SharedDictionary, TooLarge}
 use Rattle.ipc_devices.specs.declared.fault.Fault.{Fault}
@@ -24,13 +23,13 @@ use Rattle.ipc_model.specs.Accepted.{AreBlocks, AreKept, IsAcceptedByFile, IsSay
 use Rattle.ipc_model.specs.Batches.{Chunk}
 use Rattle.ipc_model.specs.Entries.{Dictionaries, dictionary_at}
 use Rattle.ipc_model.specs.Offers.{FilledPlace, offer_of, values_of}
-use Rattle.ipc_plan.specs.Sending.{seen_by}
 use Rattle.ipc_stream_lemmas.specs.Remembered.{KnowsRemembered}
 use Rattle.ipc_tracker.specs.Listings.{ListsUnwritten, ListsAll, RefusesAll, remembering_all}
 use Rattle.ipc_tracker.specs.Trackers.{IsSameMemory}
 use Rattle.ipc_chunks.specs.Lengths.{HaveLengths}
 use Rattle.ipc_write.specs.Meaning.{normal_types}
 use Rattle.ipc_chunks.specs.Messages.{AreMessages, Message, RefusesMessages}
+use Rattle.ipc_devices.specs.Device.{Device}
 use Rattle.ipc_write.specs.Sending.{Delivers}
 use Rattle.ipc_write.specs.Writers.{FitTypes, MissesWrite as StreamMisses, RefusesChunk as StreamRefuses, WriterSeen}
 use Rattle.ipc_write.specs.declared.stream.WriterState.{WriterState}
@@ -62,22 +61,22 @@ pub record TakesChunk {W : Type 0} (a b : FileSeen W) (list : List FilledPlace) 
 
 -- If a call sends anything, it sends the messages of these columns. They are those of the
 -- dictionaries that the writer doesn't remember, inner before outer, and that of the columns.
-pub record SendsColumns {W : Type 0} (known grows : Bool) (failures room : W → ℕ) (memory : W → Memory) (a : FileSeen W) (r : Result Unit Fault) (b : FileSeen W) (columns : List AnyArray) : Type 0 where
+pub record SendsColumns {W : Type 0} (d : Device W) (a : FileSeen W) (r : Result Unit Fault) (b : FileSeen W) (columns : List AnyArray) : Type 0 where
   pub list : List FilledPlace
   pub dictionaries : List Message
   pub own : Message
   pub lists : WhereSent r (ListsAll a.remembers true (map layout_of columns) a.ids list)
   pub are : WhereSent r (AreMessages a.order (map layout_of columns) list dictionaries own)
   pub takes : OnOk r (TakesChunk a b list (map sent dictionaries) (sent own))
-  pub step : FileStep known grows failures room memory a r b (chunk_bytes (map sent dictionaries) (sent own))
+  pub step : FileStep d a r b (chunk_bytes (map sent dictionaries) (sent own))
 
 -- The effect of `write` on the file: if it returns Ok, the file has one
 -- chunk more, else it is as it was.
-pub record Appends {W : Type 0} (known : Bool) (memory : W → Memory) (a : FileSeen W) (r : Result Unit Fault) (b : FileSeen W) (chunk : Chunk) : Type 0 where
-  pub appended : IsTrue known → (is_stream : Bool) (base : List ℕ) (cs : List Chunk) → HoldsBytes is_stream (memory a.device) a base cs
-      → OnOk r (HoldsBytes is_stream (memory b.device) b base (cs ++ chunk ∷ []))
-  pub kept : IsTrue known → (is_stream : Bool) (base : List ℕ) (cs : List Chunk) → HoldsBytes is_stream (memory a.device) a base cs
-      → OnErr r (HoldsBytes is_stream (memory b.device) b base cs)
+pub record Appends {W : Type 0} (d : Device W) (a : FileSeen W) (r : Result Unit Fault) (b : FileSeen W) (chunk : Chunk) : Type 0 where
+  pub appended : IsTrue d.is_memory → (is_stream : Bool) (base : List ℕ) (cs : List Chunk) → HoldsBytes is_stream (d.memory a.device) a base cs
+      → OnOk r (HoldsBytes is_stream (d.memory b.device) b base (cs ++ chunk ∷ []))
+  pub kept : IsTrue d.is_memory → (is_stream : Bool) (base : List ℕ) (cs : List Chunk) → HoldsBytes is_stream (d.memory a.device) a base cs
+      → OnErr r (HoldsBytes is_stream (d.memory b.device) b base cs)
 
 -- ---- which chunks are accepted
 
@@ -190,7 +189,7 @@ abbrev pub RefusesSending : Endianness → List Layout → List FilledPlace → 
 RefusesSending order columns list place e = RefusesMessages list columns e ⊎ HasNoPlace order columns list place e
 
 -- A call that sends the messages of a chunk, or refuses before anything is sent.
-pub record HandsChunk {W : Type 0} (known grows : Bool) (failures room : W → ℕ) (memory : W → Memory) (order : Endianness) (columns : List Layout) (list : List FilledPlace) (place : ℕ) (w : W) (s : WriterState) (r : Result Placed Fault) (w' : W) (s' : WriterState) : Type 0 where
+pub record HandsChunk {W : Type 0} (d : Device W) (order : Endianness) (columns : List Layout) (list : List FilledPlace) (place : ℕ) (w : W) (s : WriterState) (r : Result Placed Fault) (w' : W) (s' : WriterState) : Type 0 where
   pub dictionaries : List Message
   pub own : Message
   pub are : WhereSent r (AreMessages order columns list dictionaries own)
@@ -200,4 +199,4 @@ pub record HandsChunk {W : Type 0} (known grows : Bool) (failures room : W → �
   pub unsent : OnRefused r ((w' ≡ w) × (s' ≡ s))
   pub stays : OnOk r (s' ≡ s)
   pub failed : OnIo r (s' ≡ Failed)
-  pub sends : WhereSent r (Delivers known grows (seen_by failures room memory w) (seen_by failures room memory w') r (chunk_bytes (map sent dictionaries) (sent own)))
+  pub sends : WhereSent r (Delivers d (chunk_bytes (map sent dictionaries) (sent own)) w r w')

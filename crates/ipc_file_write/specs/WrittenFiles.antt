@@ -1,6 +1,6 @@
 -- What the calls of a new file writer in memory leave, and why the file isn't finished.
 -- (Arrow columnar format, "IPC File Format"; the limits are this project's own.)
-use Rattle.std.specs.Prelude.{◌≡◌, ◌⊎◌, ℕ, ◌-◌, ◌≤◌, true, List, [], Result, Vec, vec_capacity, vec_len}
+use Rattle.std.specs.Prelude.{◌≡◌, ◌⊎◌, ℕ, ◌≤◌, List, [], Result, IfErr, IfOk, Vec}
 use Rattle.std.specs.declared.alloc.Global.{Global}
 use Rattle.lower.specs.TypeTrees.{FieldTrees, Pairs}
 use Rattle.lower_types.specs.declared.Endianness.{Endianness}
@@ -14,12 +14,13 @@ use Rattle.ipc_model.specs.WriterStates.{IsRun, State as Stage, Writer, answered
 use Rattle.ipc_model.specs.Writers.{taken}
 use Rattle.ipc_schema_write.specs.WriterAnswers.{max_weight}
 use Rattle.ipc_write.specs.Calls.{ended_as}
-use Rattle.ipc_write.specs.Vectors.{HasNoRoom}
+use Rattle.ipc_write.specs.Vectors.{HasNoRoom, vectors}
 use Rattle.ipc_write.specs.declared.calls.StreamCall.{StreamCall}
 use Rattle.ipc_write.specs.declared.stream.WriterState.TheVariants.{New, Started, Finished, Failed}
 use Rattle.ipc_footer_write.specs.Footers.{AreFew}
-use Rattle.ipc_file_write.specs.Calls.{AreMade, vector, writer_seen}
+use Rattle.ipc_file_write.specs.Calls.{AreMade, IsWrittenFile, writer_seen}
 use Rattle.ipc_file_write.specs.FileWriters.{Agrees, FileSeen, IsEnding, IsFileOf}
+use Rattle.ipc_file_write.specs.declared.calls.WrittenFile.{WrittenFile}
 
 -- ---- the calls
 
@@ -34,10 +35,10 @@ pub record Leave (order : Endianness) (fields : FieldTrees) (metadata : Pairs) (
   pub first : FileSeen (Vec ℕ Global)
   pub new : first.state ≡ New
   pub file : IsFileOf first fields metadata ids order pairs
-  pub empty : Agrees vector first [] []
-  pub made : AreMade true true (λ v. 0) (λ v. vec_capacity v - vec_len v) vector first calls answers last
+  pub empty : Agrees vectors first [] []
+  pub made : AreMade vectors first calls answers last
   pub run : IsRun (writer_in order pairs new_writer) (ended_as calls answers) (writer_seen last)
-  pub holds : Agrees vector last [] (taken (answered (ended_as calls answers)))
+  pub holds : Agrees vectors last [] (taken (answered (ended_as calls answers)))
 
 -- The calls of a new file writer leave a file that is finished, or can be.
 pub record RunsToFile (order : Endianness) (fields : FieldTrees) (metadata : Pairs) (ids : IdTrees) (pairs : Pairs) (calls : List StreamCall) (answers : List (Result Unit Fault)) : Type 0 where
@@ -78,3 +79,14 @@ RefusesWholeFile order fs es is ps calls (Argument TooLarge) = (¬ (file_weight 
 RefusesWholeFile order fs es is ps calls (State faults.NotStarted) = MayLeave order fs es is ps calls (λ w. w.state ≡ New)
 RefusesWholeFile order fs es is ps calls (State faults.Failed) = MayLeave order fs es is ps calls (λ w. w.state ≡ Failed)
 RefusesWholeFile order fs es is ps calls _ = ⊥
+
+-- ---- the call
+
+-- `write_file`: these calls of a new writer of such a file in memory, and its end.
+pub record WritesWholeFile (order : Endianness) (fields : FieldTrees) (metadata : Pairs) (ids : IdTrees) (pairs : Pairs) (calls : List StreamCall) (r : Result WrittenFile Fault) : Type 0 where
+  -- What each error means.
+  pub causes : IfErr r (RefusesWholeFile order fields metadata ids pairs calls)
+  -- The calls had these results, and left a file that is finished or was finished then.
+  pub state : IfOk r (λ f. RunsToFile order fields metadata ids pairs calls f.answers.items)
+  -- The bytes are a whole file with exactly the chunks whose `write` returned Ok.
+  pub content : IfOk r (λ f. IsWrittenFile f.bytes.items order fields metadata ids pairs (taken (answered (ended_as calls f.answers.items))))

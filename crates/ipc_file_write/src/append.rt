@@ -11,8 +11,9 @@ ghost use Rattle.ipc_read_flat.specs.Bodies.{known_dictionaries};
 ghost use Rattle.ipc_files.specs.Dictionaries.{DictionariesReason, GivesKnown, IsDictionaryBlockFault};
 ghost use Rattle.ipc_files.specs.Footers.{file_seen};
 ghost use Rattle.ipc_file_lemmas.specs.Appending.{HasNegative, HaveNegative, end_of, goes_on, greatest_end};
+ghost use Rattle.ipc_file_write.specs.Api.{OpensToAppend};
 ghost use Rattle.ipc_file_write.specs.FileWriters.{scratches_of, seen};
-ghost use Rattle.ipc_file_write.specs.Appends.{AreEmptyScratches, CanBeWritten, DeviceFails, GoesOn, GoesOnAgain, GoesOnWith, MayGoOn, OpensFile, RefusesFile, RefusesNoWhole, RefusesToGoOn, resumed};
+ghost use Rattle.ipc_file_write.specs.Appends.{AreEmptyScratches, CanBeWritten, GoesOn, MayGoOn, RefusesFile, RefusesToGoOn, resumed};
 
 use crate::file::FileWriter;
 pub use crate::prepared::Prepared;
@@ -23,8 +24,8 @@ use ipc_files::read::file::{FileMetadata, read_file_dictionaries};
 use ipc_footer_write::weights::is_light;
 use ipc_read::read::Dictionaries;
 use ipc_schema_write::schema::serialize_schema;
-use ipc_tracker::DictionaryTracker;
 use ipc_table_views::Block;
+use ipc_tracker::DictionaryTracker;
 use ipc_write::stream::WriterState;
 use std::alloc::Global;
 
@@ -108,15 +109,22 @@ fn dictionaries_of<W: Reads + Seeks>(
     place: u64,
 ) -> Result<Dictionaries, Fault>
     ensures only { IfErr result (λ e. OwnFault e (IsDictionaryBlockFault e)) }
-    ensures reason { IsTrue W.known → let m = file_seen metadata.now in
-        IfErr result (λ e. OwnFault e (DictionariesReason m (W.memory device.old).whole [] m.dictionaries e)) }
-    ensures memory { IsTrue W.known → GivesKnown (λ known. known_dictionaries known) result
-        (file_dictionaries (file_seen metadata.now) (W.memory device.old).whole) }
-    ensures place { IsTrue W.known → OnOk result (GoesTo (W.memory device.old) (W.memory device.new) place) }
-    ensures whole { IsTrue W.still → (W.memory device.new).whole ≡ (W.memory device.old).whole }
-    ensures monotone { W.failures device.old ≤ W.failures device.new }
-    ensures failed { OnIo result (Rises (W.failures device.old) (W.failures device.new)) }
-    ensures told { UnlessIo result (W.failures device.new ≡ W.failures device.old) }
+    ensures reason { IsTrue W.device.is_memory → let m = file_seen metadata.now in
+        IfErr result
+        (λ e. OwnFault e
+        (DictionariesReason m (W.device.memory device.old).whole [] m.dictionaries e)) }
+    ensures memory { IsTrue W.device.is_memory
+        → GivesKnown (λ known. known_dictionaries known) result
+        (file_dictionaries (file_seen metadata.now) (W.device.memory device.old).whole) }
+    ensures place { IsTrue W.device.is_memory
+        → OnOk result (GoesTo (W.device.memory device.old) (W.device.memory device.new) place) }
+    ensures whole { IsTrue W.device.is_read_only
+        → (W.device.memory device.new).whole ≡ (W.device.memory device.old).whole }
+    ensures names { W.device.names device.new ≡ W.device.names device.old }
+    ensures monotone { W.device.failures device.old ≤ W.device.failures device.new }
+    ensures failed { OnIo result
+        (Rises (W.device.failures device.old) (W.device.failures device.new)) }
+    ensures told { UnlessIo result (W.device.failures device.new ≡ W.device.failures device.old) }
 {
     let mut scratch = Vec::new(alloc);
     let dictionaries = read_file_dictionaries(alloc, device, metadata, &mut scratch)?;
@@ -150,13 +158,15 @@ pub fn prepare<W: Reads + Seeks>(
     device: &mut W,
     metadata: FileMetadata,
 ) -> Result<Prepared, Fault>
-    ensures ok { IfOk result (λ prepared.
-        GoesOn W.known W.memory (file_seen metadata) device.old (resumed device.new prepared)) }
+    ensures ok { IfOk result (λ prepared. GoesOn W.device (file_seen metadata) device.old
+        (resumed device.new prepared)) }
     ensures only { IfErr result
-        (RefusesFile W.known (file_seen metadata) (W.memory device.old).whole) }
-    ensures whole { IsTrue W.still → (W.memory device.new).whole ≡ (W.memory device.old).whole }
-    ensures failed { OnIo result (Rises (W.failures device.old) (W.failures device.new)) }
-    ensures told { UnlessIo result (W.failures device.new ≡ W.failures device.old) }
+        (RefusesFile W.device.is_memory (file_seen metadata) (W.device.memory device.old).whole) }
+    ensures whole { IsTrue W.device.is_read_only
+        → (W.device.memory device.new).whole ≡ (W.device.memory device.old).whole }
+    ensures failed { OnIo result
+        (Rises (W.device.failures device.old) (W.device.failures device.new)) }
+    ensures told { UnlessIo result (W.device.failures device.new ≡ W.device.failures device.old) }
 {
     let place = place_to_go_on(alloc, &metadata)?;
     let mut dictionary_blocks = Vec::new(alloc);
@@ -231,14 +241,7 @@ impl<W: Reads + Writes + Seeks + Drop> FileWriter<W> {
         metadata: FileMetadata,
         _options: WriteOptions,
     ) -> Result<FileWriter<W>, Fault>
-        ensures ok { IfOk result (λ w.
-            OpensFile W.known W.failures W.memory (file_seen metadata) writer (seen w)) }
-        ensures only { IfErr result (RefusesFile W.known (file_seen metadata) (W.memory writer).whole) }
-        ensures failed { OnIo result (DeviceFails W.failures writer) }
-        ensures always { IfErr result (RefusesNoWhole W.known W.memory (file_seen metadata) writer) }
-        ensures means { IfOk result (λ w. GoesOnWith W.known W.memory (file_seen metadata) writer (seen w)) }
-        ensures again { IfOk result (λ w. GoesOnAgain W.known W.memory (file_seen metadata) writer (seen w)) }
-        ensures scratches { IfOk result (λ w. AreEmptyScratches (scratches_of w)) }
+        ensures { OpensToAppend W.device (file_seen metadata) writer result }
     {
         let prepared = prepare(alloc, &mut writer, metadata)?;
         Ok(FileWriter::resume(writer, prepared))

@@ -1,15 +1,12 @@
 //! Lists of calls of a file writer, their results, and the bytes after them.
 ghost use Rattle.std.specs.Prelude.{◌≡◌, ◌⊎◌, IfErr, IfOk, OnErr, OnOk, not};
 ghost use Rattle.lower.specs.TypeViews.{fields_view, pairs_of};
-ghost use Rattle.ipc_model.specs.WriterStates.{IsRun, answered};
-ghost use Rattle.ipc_model.specs.Writers.{taken};
 ghost use Rattle.ipc_schema_write.specs.WriterAnswers.{byte_order};
-ghost use Rattle.ipc_write.specs.Calls.{ended_as};
 ghost use Rattle.ipc_write.specs.Writers.{chosen_ids};
 ghost use Rattle.ipc_write.specs.declared.stream.WriterState.TheVariants.{Finished, Started};
-ghost use Rattle.ipc_file_write.specs.Calls.{AreMade, EndsFile, FirstAreMade, GrowsBy, HasChosen, IsMade, IsWrittenFile, MakesCall, writer_seen};
-ghost use Rattle.ipc_file_write.specs.FileWriters.{IsSameFile, seen};
-ghost use Rattle.ipc_file_write.specs.WrittenFiles.{RefusesEnd, RefusesWholeFile, RunsToFile};
+ghost use Rattle.ipc_file_write.specs.Calls.{EndsFile, FirstAreMade, IsMade, MakesCall, RunsFile};
+ghost use Rattle.ipc_file_write.specs.FileWriters.{seen};
+ghost use Rattle.ipc_file_write.specs.WrittenFiles.{RefusesEnd, WritesWholeFile};
 
 use crate::file::FileWriter;
 use ipc_base::ipc::IpcField;
@@ -28,8 +25,8 @@ pub fn run_call<W: Writes + Drop>(
     writer: &mut FileWriter<W>,
     call: &StreamCall,
 ) -> Result<(), Fault>
-    ensures made { IsMade W.known W.grows W.failures W.room W.memory (seen writer.old) call.now result (seen writer.new) }
-    ensures moves { MakesCall W.known W.memory (seen writer.old) call.now result (seen writer.new) }
+    ensures made { IsMade W.device (seen writer.old) call.now result (seen writer.new) }
+    ensures moves { MakesCall W.device (seen writer.old) call.now result (seen writer.new) }
 {
     match call {
         StreamCall::Start => writer.start(),
@@ -49,13 +46,10 @@ pub fn run_calls<W: Writes + Drop>(
     writer: &mut FileWriter<W>,
     calls: &[StreamCall],
 ) -> Result<Vec<Result<(), Fault>>, AllocError>
-    ensures made { IfOk result (λ answers. AreMade W.known W.grows W.failures W.room W.memory (seen writer.old) calls.now answers.items (seen writer.new)) }
-    ensures run { IfOk result (λ answers. IsRun (writer_seen (seen writer.old)) (ended_as calls.now answers.items) (writer_seen (seen writer.new))) }
-    ensures follows { IfOk result (λ answers. GrowsBy W.known W.memory (seen writer.old) (seen writer.new)
-        (taken (answered (ended_as calls.now answers.items)))) }
-    ensures same { IfOk result (λ _. IsSameFile (seen writer.old) (seen writer.new)) }
-    ensures chosen { IfOk result (λ _. HasChosen (seen writer.old) → HasChosen (seen writer.new)) }
-    ensures refused { OnErr result (FirstAreMade W.known W.grows W.failures W.room W.memory (seen writer.old) calls.now (seen writer.new)) }
+    ensures ran { IfOk result (λ answers.
+        RunsFile W.device (seen writer.old) calls.now answers.items (seen writer.new)) }
+    ensures refused { OnErr result
+        (FirstAreMade W.device (seen writer.old) calls.now (seen writer.new)) }
 {
     let mut answers = Vec::new(alloc);
     for call in calls {
@@ -109,15 +103,10 @@ pub fn write_file(
     options: WriteOptions,
     calls: &[StreamCall],
 ) -> Result<WrittenFile, Fault>
-    ensures file { let fields = fields_view schema.fields.items in
-        IfOk result (λ f. IsWrittenFile f.bytes.items (byte_order (not options.big_endian)) fields (pairs_of schema.metadata.entries)
-        (chosen_ids ipc_fields fields) (pairs_of custom_metadata.entries) (taken (answered (ended_as calls.now f.answers.items)))) }
-    ensures run { let fields = fields_view schema.fields.items in
-        IfOk result (λ f. RunsToFile (byte_order (not options.big_endian)) fields (pairs_of schema.metadata.entries)
-        (chosen_ids ipc_fields fields) (pairs_of custom_metadata.entries) calls.now f.answers.items) }
-    ensures only { let fields = fields_view schema.fields.items in
-        IfErr result (RefusesWholeFile (byte_order (not options.big_endian)) fields (pairs_of schema.metadata.entries)
-        (chosen_ids ipc_fields fields) (pairs_of custom_metadata.entries) calls.now) }
+    ensures { let fields = fields_view schema.fields.items in
+        WritesWholeFile (byte_order (not options.big_endian)) fields
+        (pairs_of schema.metadata.entries) (chosen_ids ipc_fields fields)
+        (pairs_of custom_metadata.entries) calls.now result }
 {
     let mut writer = FileWriter::new(alloc, Vec::new(alloc), schema, ipc_fields, options)?;
     writer.set_custom_metadata(custom_metadata)?;

@@ -6,8 +6,8 @@ ghost use Rattle.ipc_file_write.specs.Keeping.{StaysWritable};
 
 use ipc_base::ipc::IpcField;
 use ipc_encode::common::EncodedData;
-use ipc_tracker::DictionaryTracker;
 use ipc_table_views::Block;
+use ipc_tracker::DictionaryTracker;
 use ipc_write::stream::WriterState;
 use lower::datatypes::{Metadata, Schema};
 use std::alloc::Global;

@@ -5,8 +5,8 @@ ghost use Rattle.ipc_base.specs.IdTrees.{all_ids_view};
 ghost use Rattle.ipc_model.specs.Writable.{IsWritableFile};
 
 use ipc_files::read::file::FileMetadata;
-use ipc_tracker::DictionaryTracker;
 use ipc_table_views::Block;
+use ipc_tracker::DictionaryTracker;
 use std::alloc::Global;
 
 /// A file that can be appended to: its metadata and the values of its dictionaries.

@@ -3,7 +3,7 @@ ghost use Rattle.std.specs.Prelude.{◌≡◌, ◌^◌, ◌<◌, ◌++◌, IfOk,
 ghost use Rattle.lower_arrays.specs.AnyLayouts.{layout_of};
 ghost use Rattle.ipc_schema_write.specs.WriterAnswers.{byte_order};
 ghost use Rattle.ipc_tracker.specs.Listings.{listed};
-ghost use Rattle.ipc_plan.specs.Sending.{Sends, seen_by};
+ghost use Rattle.ipc_plan.specs.Sending.{Sends};
 ghost use Rattle.ipc_model.specs.WrittenLaws.{prefix};
 ghost use Rattle.ipc_chunks.specs.Messages.{AreSendable};
 ghost use Rattle.ipc_write.specs.Messages.{all_seen, messages_bytes};
@@ -53,8 +53,7 @@ pub(crate) fn send<W: Writes>(
     state: &mut WriterState,
     bytes: &[u8],
 ) -> Result<(), Fault>
-    ensures sends { Delivers W.known W.grows (seen_by W.failures W.room W.memory writer.old)
-        (seen_by W.failures W.room W.memory writer.new) result bytes.now }
+    ensures sends { Delivers W.device bytes.now writer.old result writer.new }
     ensures stays { OnOk result (state.new ≡ state.old) }
     ensures failed { OnErr result (state.new ≡ Failed) }
 {
@@ -64,8 +63,7 @@ pub(crate) fn send<W: Writes>(
 
 // Sends the end mark, the zero bytes, the footer and the tail.
 fn send_ending<W: Writes>(writer: &mut W, ending: &Ending) -> Result<(), Fault>
-    ensures { Sends W.known W.grows (seen_by W.failures W.room W.memory writer.old)
-        (seen_by W.failures W.room W.memory writer.new) result (ending_bytes ending.now) }
+    ensures { Sends W.device (ending_bytes ending.now) writer.old result writer.new }
 {
     let pieces = [
         Piece::Bytes(&END_OF_STREAM),
@@ -78,8 +76,7 @@ fn send_ending<W: Writes>(writer: &mut W, ending: &Ending) -> Result<(), Fault>
 
 // Sends the end of a file, and flushes the device.
 fn send_and_flush<W: Writes>(writer: &mut W, ending: &Ending) -> Result<(), Fault>
-    ensures sends { Delivers W.known W.grows (seen_by W.failures W.room W.memory writer.old)
-        (seen_by W.failures W.room W.memory writer.new) result (ending_bytes ending.now) }
+    ensures sends { Delivers W.device (ending_bytes ending.now) writer.old result writer.new }
 {
     send_ending(writer, ending)?;
     writer.flush()?;
@@ -92,8 +89,7 @@ pub(crate) fn send_last<W: Writes>(
     state: &mut WriterState,
     ending: &Ending,
 ) -> Result<(), Fault>
-    ensures sends { Delivers W.known W.grows (seen_by W.failures W.room W.memory writer.old)
-        (seen_by W.failures W.room W.memory writer.new) result (ending_bytes ending.now) }
+    ensures sends { Delivers W.device (ending_bytes ending.now) writer.old result writer.new }
     ensures stays { OnOk result (state.new ≡ state.old) }
     ensures failed { OnErr result (state.new ≡ Failed) }
 {
@@ -133,8 +129,8 @@ fn send_messages<W: Writes>(
     messages: &Messages<'_>,
 ) -> Result<(), Fault>
     requires { AreSendable messages.now }
-    ensures sends { Delivers W.known W.grows (seen_by W.failures W.room W.memory writer.old)
-        (seen_by W.failures W.room W.memory writer.new) result (messages_bytes (all_seen messages.now)) }
+    ensures sends { Delivers W.device (messages_bytes (all_seen messages.now)) writer.old result
+        writer.new }
     ensures stays { OnOk result (state.new ≡ state.old) }
     ensures failed { OnErr result (state.new ≡ Failed) }
 {
@@ -154,7 +150,7 @@ pub(crate) fn send_chunk<W: Writes>(
     is_little_endian: bool,
     place: u64,
 ) -> Result<Placed, Fault>
-    ensures { HandsChunk W.known W.grows W.failures W.room W.memory (byte_order is_little_endian) (map layout_of columns.now)
+    ensures { HandsChunk W.device (byte_order is_little_endian) (map layout_of columns.now)
         (map listed dictionaries.now) place writer.old state.old result writer.new state.new }
 {
     let messages = encode_messages(alloc, columns, dictionaries, is_little_endian)?;

@@ -1,20 +1,19 @@
 //! Writes files.
 //!
 //! Arrow columnar format, "IPC File Format".
-ghost use Rattle.std.specs.Prelude.{◌≡◌, [], All, IfErr, IfOk, IfSome, IsOkAnd, IsTrue, None, OnErr, OnOk, map, not, ◌≤◌, ◌-◌, ◌+◌, ◌^◌};
+ghost use Rattle.std.specs.Prelude.{◌≡◌, [], All, IfErr, IfOk, IfSome, IsOkAnd, None, OnOk, map, not, ◌≤◌, ◌-◌, ◌+◌, ◌^◌};
 ghost use Rattle.lower.specs.TypeViews.{fields_view, pairs_of, schema_view};
-ghost use Rattle.ipc_devices.specs.Device.{before};
 ghost use Rattle.ipc_devices.specs.declared.fault.Fault.TheVariants.{State};
 ghost use Rattle.lower_arrays.specs.AnyLayouts.{layout_of};
 ghost use Rattle.lower_arrays.specs.Slots.{IsArray};
 ghost use Rattle.ipc_schema_write.specs.WriterAnswers.{byte_order};
 ghost use Rattle.ipc_tracker.specs.Listings.{listed};
-ghost use Rattle.ipc_write.specs.Meaning.{chunk_written};
 ghost use Rattle.ipc_write.specs.Writers.{HaveTypes, RefusesState, RefusesTypes, chosen_ids, seen_ids, fault_unless_new, fault_unless_started};
 ghost use Rattle.ipc_write.specs.declared.stream.WriterState.TheVariants.{New, Started};
-ghost use Rattle.ipc_file_write.specs.Beginnings.{StartsNew};
-ghost use Rattle.ipc_file_write.specs.Writes.{Appends, MayList, NamesOne, RefusesChunk, SendsColumns, WritesExactly, field_normal};
-ghost use Rattle.ipc_file_write.specs.FileWriters.{Agrees, AnswersFinish, AnswersStart, EndsWith, HasNothing, IsFileOf, MayFinish, MayStart, OrFails, ReachesEnd, RefusesFinish, TakesNoPairs, RefusesStart, Remains, SendsBeginning, SendsEnding, StartsWith, StateComesFirst, TakesPairs, fault_if_over, scratches_of, seen};
+ghost use Rattle.ipc_file_write.specs.Api.{FinishesFile, IsNewWriter, MakesStarted, SetsPairs, StartsFile, WritesToFile};
+ghost use Rattle.ipc_file_write.specs.Appends.{AreEmptyScratches};
+ghost use Rattle.ipc_file_write.specs.Writes.{MayList, RefusesChunk, field_normal};
+ghost use Rattle.ipc_file_write.specs.FileWriters.{MayFinish, MayStart, RefusesFinish, RefusesStart, fault_if_over, scratches_of, seen};
 
 use crate::blocks::{add, add_all, make_room};
 pub use crate::file::FileWriter;
@@ -87,13 +86,11 @@ impl<W: Writes + Drop> FileWriter<W> {
         ipc_fields: Option<Vec<IpcField>>,
         options: WriteOptions,
     ) -> Result<FileWriter<W>, Fault>
-        ensures device { IsOkAnd result (λ w. (seen w).device ≡ writer) }
-        ensures state { IsOkAnd result (λ w. (seen w).state ≡ New) }
-        ensures file { IsOkAnd result (λ w. IsFileOf (seen w) (fields_view schema.fields.items) (pairs_of schema.metadata.entries)
-            (chosen_ids ipc_fields (fields_view schema.fields.items)) (byte_order (not options.big_endian)) []) }
-        ensures means { IsOkAnd result (λ w. HasNothing W.memory (seen w)) }
-        ensures message { IsOkAnd result (λ w. (scratches_of w).ipc_message.items ≡ []) }
-        ensures data { IsOkAnd result (λ w. (scratches_of w).arrow_data.items ≡ []) }
+        ensures made { let fields = fields_view schema.fields.items in
+            IsOkAnd result (λ w. IsNewWriter W.device writer fields
+            (pairs_of schema.metadata.entries) (chosen_ids ipc_fields fields)
+            (byte_order (not options.big_endian)) (seen w)) }
+        ensures scratches { IsOkAnd result (λ w. AreEmptyScratches (scratches_of w)) }
     {
         Ok(FileWriter {
             alloc,
@@ -124,15 +121,9 @@ impl<W: Writes + Drop> FileWriter<W> {
         ipc_fields: Option<Vec<IpcField>>,
         options: WriteOptions,
     ) -> Result<FileWriter<W>, Fault>
-        ensures state { IfOk result (λ w. (seen w).state ≡ Started) }
-        ensures file { let fields = fields_view schema.fields.items in
-            IfOk result (λ w. IsFileOf (seen w) fields (pairs_of schema.metadata.entries) (chosen_ids ipc_fields fields) (byte_order (not options.big_endian)) []) }
-        ensures starts { let fields = fields_view schema.fields.items in
-            StartsNew W.known W.grows W.failures W.room W.memory writer fields (pairs_of schema.metadata.entries) (chosen_ids ipc_fields fields)
-            (byte_order (not options.big_endian)) result }
-        ensures means { IsTrue W.known → IfOk result (λ w. Agrees W.memory (seen w) (before (W.memory writer)) []) }
-        ensures message { IfOk result (λ w. (scratches_of w).ipc_message.items ≡ []) }
-        ensures data { IfOk result (λ w. (scratches_of w).arrow_data.items ≡ []) }
+        ensures { let fields = fields_view schema.fields.items in
+            MakesStarted W.device writer fields (pairs_of schema.metadata.entries)
+            (chosen_ids ipc_fields fields) (byte_order (not options.big_endian)) result }
     {
         let mut file = FileWriter::new(alloc, writer, schema, ipc_fields, options)?;
         file.start()?;
@@ -192,11 +183,8 @@ impl<W: Writes + Drop> FileWriter<W> {
     /// - `State(Finished)`, `State(Failed)`: the writer's state.
     /// - `Argument(TooLarge)`: the schema and the pairs weigh more than `2^30`.
     pub fn set_custom_metadata(&mut self, metadata: Metadata) -> Result<(), Fault>
-        ensures first { StateComesFirst (fault_if_over (seen self.old).state) (seen self.old) result (seen self.new) }
-        ensures ok { OnOk result (TakesPairs (seen self.old) (seen self.new) (pairs_of metadata.entries)) }
-        ensures only { IfErr result (TakesNoPairs (seen self.old) (pairs_of metadata.entries)) }
-        ensures kept { OnErr result (seen self.new ≡ seen self.old) }
-        ensures means { Remains W.known W.memory (seen self.old) (seen self.new) }
+        ensures sets { SetsPairs W.device (seen self.old) (pairs_of metadata.entries) result
+            (seen self.new) }
         ensures scratches { scratches_of self.new ≡ scratches_of self.old }
     {
         self.check_open()?;
@@ -244,12 +232,7 @@ impl<W: Writes + Drop> FileWriter<W> {
     /// - `Io`: the device failed, or it is memory whose growth was refused. Some of the first bytes
     ///   may have been sent, and each later `start`, `write` and `finish` returns `State(Failed)`.
     pub fn start(&mut self) -> Result<(), Fault>
-        ensures first { StateComesFirst (fault_unless_new (seen self.old).state) (seen self.old) result (seen self.new) }
-        ensures step { SendsBeginning W.known W.grows W.failures W.room W.memory (seen self.old) result (seen self.new) }
-        ensures ok { OnOk result (StartsWith (seen self.old) (seen self.new)) }
-        ensures only { IfErr result (OrFails (RefusesStart (seen self.old))) }
-        ensures exact { AnswersStart (seen self.old) result }
-        ensures means { Remains W.known W.memory (seen self.old) (seen self.new) }
+        ensures starts { StartsFile W.device (seen self.old) result (seen self.new) }
         ensures scratches { scratches_of self.new ≡ scratches_of self.old }
     {
         let Starting { ipc_fields, bytes } = self.starting()?;
@@ -311,11 +294,8 @@ impl<W: Writes + Drop> FileWriter<W> {
         columns: &Chunk<AnyArray>,
         ipc_fields: Option<&[IpcField]>,
     ) -> Result<(), Fault>
-        ensures first { StateComesFirst (fault_unless_started (seen self.old).state) (seen self.old) result (seen self.new) }
-        ensures step { SendsColumns W.known W.grows W.failures W.room W.memory (seen self.old) result (seen self.new) columns.now }
-        ensures exact { WritesExactly (seen self.old) columns.now (seen_ids ipc_fields.entry) result }
-        ensures named { IfErr result (NamesOne (seen self.old) columns.now) }
-        ensures means { Appends W.known W.memory (seen self.old) result (seen self.new) (chunk_written columns.now) }
+        ensures writes { WritesToFile W.device (seen self.old) columns.now
+            (seen_ids ipc_fields.entry) result (seen self.new) }
         ensures scratches { scratches_of self.new ≡ scratches_of self.old }
     {
         let dictionaries = self.check_write(columns.arrays(), ipc_fields)?;
@@ -381,13 +361,7 @@ impl<W: Writes + Drop> FileWriter<W> {
     /// - `Io`: the device failed, or it is memory whose growth was refused. Each later `start`,
     ///   `write` and `finish` returns `State(Failed)`.
     pub fn finish(&mut self) -> Result<(), Fault>
-        ensures first { StateComesFirst (fault_unless_started (seen self.old).state) (seen self.old) result (seen self.new) }
-        ensures step { SendsEnding W.known W.grows W.failures W.room W.memory (seen self.old) result (seen self.new) }
-        ensures ok { OnOk result (EndsWith (seen self.old) (seen self.new)) }
-        ensures reaches { OnOk result (ReachesEnd W.known W.memory (seen self.old) (seen self.new)) }
-        ensures only { IfErr result (OrFails (RefusesFinish (seen self.old))) }
-        ensures exact { AnswersFinish (seen self.old) result }
-        ensures means { Remains W.known W.memory (seen self.old) (seen self.new) }
+        ensures finishes { FinishesFile W.device (seen self.old) result (seen self.new) }
         ensures scratches { scratches_of self.new ≡ scratches_of self.old }
     {
         let ending = self.finishing()?;

@@ -66,7 +66,7 @@ pub dictionary-kind : (x : BlockMessage) (r : Result Spot Fault) → r ≡ neede
 dictionary-kind x r is = dictionary-tag x.header (extra_of x.version) ∙ ap (answered_as (λ (t : Spot). message_seen x)) (sym is)
 
 -- The table of the header that it must be.
-record-table : (u : MessageHeaderRef) (t : Spot) → Ok t ≡ needed_record u → t ≡ (header_parts u).1
+pub record-table : (u : MessageHeaderRef) (t : Spot) → Ok t ≡ needed_record u → t ≡ (header_parts u).1
 record-table (headers.Schema s) t is = absurd cc
 record-table (headers.DictionaryBatch s) t is = absurd cc
 record-table (headers.RecordBatch s) t is = cc

@@ -12,3 +12,4 @@ pub mod NeededValues
 pub mod Reasons
 pub mod HeldValues
 pub mod TakenBytes
+pub mod Causes

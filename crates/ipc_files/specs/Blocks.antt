@@ -83,6 +83,7 @@ frame_fault negative None = Ended
 -- ---- the header
 
 -- The header of a block's message, as the definitions have it.
+
 abbrev pub message_seen : BlockMessage → BlockHeader
 message_seen m = record { tag = (header_parts m.header).0; table = (header_parts m.header).1; extra = extra_of m.version }
 

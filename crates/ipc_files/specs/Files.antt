@@ -4,7 +4,7 @@
 use Rattle.std.specs.Prelude.{◌≡◌, ◌⊎◌, ℕ, ◌+◌, ◌-◌, ◌<◌, ◌≤◌, ◌^◌, nat_lt, ◌&&◌, if◌then◌else◌, List, [], ◌∷◌, length, take, drop, Option, None, Some, Result, Ok, Err, Bool, IsTrue}
 use Rattle.std.specs.Int.{w32, from_le_bytes}
 use Rattle.std.specs.Str.{bytes_eq}
-use Rattle.ipc_devices.specs.Device.{Memory, Rises}
+use Rattle.ipc_devices.specs.Device.{Device, Rises}
 use Rattle.ipc_devices.specs.Faults.{OnIo, OwnFault, UnlessIo}
 use Rattle.ipc_devices.specs.declared.fault.Fault.{Fault}
 use Rattle.ipc_devices.specs.declared.fault.Fault.TheVariants.{Ended, NotYetImplemented, OutOfSpec, Schema as BadSchema}
@@ -146,12 +146,13 @@ pub record FooterGiven (known : Bool) (bytes : List ℕ) (old new : ℕ) : Type 
 
 -- Reading from state a to state b: the bytes stay, and a failure of the device is counted exactly
 -- if its error is returned. At most the head and the tail were read, or these and the footer.
-pub record ReadsFooter {R X : Type 0} (known still : Bool) (memory : R → Memory) (failures given : R → ℕ) (a : R) (r : Result X Fault) (b : R) : Type 0 where
-  pub monotone : failures a ≤ failures b
-  pub failed : OnIo r (Rises (failures a) (failures b))
-  pub told : UnlessIo r (failures b ≡ failures a)
-  pub whole : IsTrue still → (memory b).whole ≡ (memory a).whole
-  pub taken : (given b ≤ given a + 16) ⊎ FooterGiven known (memory a).whole (given a) (given b)
+pub record ReadsFooter {R X : Type 0} (d : Device R) (a : R) (r : Result X Fault) (b : R) : Type 0 where
+  pub monotone : d.failures a ≤ d.failures b
+  pub failed : OnIo r (Rises (d.failures a) (d.failures b))
+  pub told : UnlessIo r (d.failures b ≡ d.failures a)
+  pub whole : IsTrue d.is_read_only → (d.memory b).whole ≡ (d.memory a).whole
+  pub taken : (d.given b ≤ d.given a + 16) ⊎ FooterGiven d.is_memory (d.memory a).whole (d.given a) (d.given b)
+  pub names : d.names b ≡ d.names a
 
 -- The bytes of the footer and the size of the file; or why it has no footer: its head or its tail.
 abbrev pub GivesFooter : ℕ → List ℕ → Result FileFooter Fault → Type 0

@@ -21,6 +21,7 @@ use Rattle.ipc_files.specs.declared.read.file.metadata.FileMetadata.{FileMetadat
 -- ---- what is read, as the meaning of a file has it
 
 -- The blocks of a list that may be absent.
+
 abbrev pub optional_blocks : Option (Vec Block Global) → Option (List Block)
 optional_blocks o = option_map (λ blocks. blocks.items) o
 

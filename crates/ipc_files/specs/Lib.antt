@@ -3,3 +3,4 @@ pub mod Blocks
 pub mod Dictionaries
 pub mod Files
 pub mod Footers
+pub mod Api

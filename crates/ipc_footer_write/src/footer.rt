@@ -12,9 +12,9 @@ use ipc_base::ipc::IpcField;
 use ipc_devices::fault::{ArgFault, Fault};
 use ipc_schema_write::metadata::serialize_pairs;
 use ipc_schema_write::schema::serialize_schema;
+use ipc_table_views::{Block, MetadataVersion};
 use ipc_tables::file::Footer;
 use ipc_tables::schema::KeyValue;
-use ipc_table_views::{Block, MetadataVersion};
 use lower::datatypes::{Metadata, Schema};
 use std::alloc::{AllocError, Global};
 
@@ -88,8 +88,9 @@ pub fn footer_to_bytes(
     custom_metadata: &Metadata,
     is_little_endian: bool,
 ) -> Result<Vec<u8>, Fault>
-    ensures { AnswersFooter (byte_order is_little_endian) result (fields_view schema.now.fields.items)
-        (pairs_of schema.now.metadata.entries) (all_ids_view ipc_fields.now) (pairs_of custom_metadata.now.entries)
+    ensures { AnswersFooter (byte_order is_little_endian) result
+        (fields_view schema.now.fields.items) (pairs_of schema.now.metadata.entries)
+        (all_ids_view ipc_fields.now) (pairs_of custom_metadata.now.entries)
         dictionaries.now blocks.now }
 {
     let table = serialize_schema(alloc, schema, ipc_fields, is_little_endian)?;

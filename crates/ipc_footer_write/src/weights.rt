@@ -155,8 +155,10 @@ fn weigh_fields(fields: &[Field]) -> Option<u64>
 ///   its value in bytes.
 pub fn weigh_schema(schema: &Schema) -> Option<u64>
     ensures { MatchOption result
-        (2 ^ 64 ≤ weight (fields_view schema.now.fields.items) (pairs_of schema.now.metadata.entries))
-        (λ n. n ≡ weight (fields_view schema.now.fields.items) (pairs_of schema.now.metadata.entries)) }
+        (2 ^ 64 ≤ weight (fields_view schema.now.fields.items)
+        (pairs_of schema.now.metadata.entries))
+        (λ n. n ≡ weight (fields_view schema.now.fields.items)
+        (pairs_of schema.now.metadata.entries)) }
 {
     let own = weigh_pairs(&schema.metadata)?.checked_add(1024)?;
     own.checked_add(weigh_fields(&schema.fields)?)
@@ -168,18 +170,18 @@ pub fn weigh_schema(schema: &Schema) -> Option<u64>
 /// the length of its key and its value in bytes.
 pub fn weigh_file(schema: &Schema, pairs: &Metadata) -> Option<u64>
     ensures { MatchOption result
-        (2 ^ 64 ≤ file_weight (fields_view schema.now.fields.items) (pairs_of schema.now.metadata.entries)
-        (pairs_of pairs.now.entries))
-        (λ n. n ≡ file_weight (fields_view schema.now.fields.items) (pairs_of schema.now.metadata.entries)
-        (pairs_of pairs.now.entries)) }
+        (2 ^ 64 ≤ file_weight (fields_view schema.now.fields.items)
+        (pairs_of schema.now.metadata.entries) (pairs_of pairs.now.entries))
+        (λ n. n ≡ file_weight (fields_view schema.now.fields.items)
+        (pairs_of schema.now.metadata.entries) (pairs_of pairs.now.entries)) }
 {
     weigh_schema(schema)?.checked_add(weigh_pairs(pairs)?)
 }
 
 /// Returns whether the weight of a file's schema and metadata is at most `2^30`.
 pub fn is_light(schema: &Schema, pairs: &Metadata) -> bool
-    ensures { IsTrue result ↔ (file_weight (fields_view schema.now.fields.items) (pairs_of schema.now.metadata.entries)
-        (pairs_of pairs.now.entries) ≤ max_weight) }
+    ensures { IsTrue result ↔ (file_weight (fields_view schema.now.fields.items)
+        (pairs_of schema.now.metadata.entries) (pairs_of pairs.now.entries) ≤ max_weight) }
 {
     match weigh_file(schema, pairs) {
         Some(weight) => weight <= MAX_WEIGHT,

@@ -35,10 +35,10 @@ pub fn read_file_metadata_within<R: Reads + Seeks>(
     limit: u64,
 ) -> Result<FileMetadata, Fault>
     ensures only { IfErr result (λ e. OwnFault e (FileFaultWithin e)) }
-    ensures device { ReadsFooter R.known R.still R.memory R.failures R.given
-        reader.old result reader.new }
-    ensures memory { IsTrue R.known →
-        GivesFileWithin limit (R.memory reader.old).place (R.memory reader.old).whole result }
+    ensures device { ReadsFooter R.device reader.old result reader.new }
+    ensures memory { IsTrue R.device.is_memory →
+        GivesFileWithin limit (R.device.memory reader.old).place (R.device.memory reader.old).whole
+        result }
     ensures fits { IfOk result (λ m. AllFit (fields_view m.schema.fields.items)
         (all_ids_view m.ipc_schema.fields.items)) }
     ensures bounded { IfOk result (λ m. metadata_size (file_seen m) ≤ limit) }

@@ -22,6 +22,7 @@ ProjectionTestLaw = (projection : Option (List ℕ)) (n : ℕ) → Decides (is_p
 -- ---- projection and limit
 
 -- The first slots of a column, up to the limit.
+
 abbrev pub cut : Limit → Column → Column
 cut None c = c
 cut (Some n) c = record { type = c.type; slots = take n c.slots }

@@ -82,6 +82,7 @@ entries_of lists body order extra dictionaries = record {
 -- ---- the columns, by their indices
 
 -- The kind of column j.
+
 abbrev pub kind_at : Kinds → ℕ → Kind
 kind_at no_kinds j = null_kind
 kind_at (more_kinds t ts) zero = t

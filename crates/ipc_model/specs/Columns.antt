@@ -51,6 +51,7 @@ pub record Offsets (s : Entries) (b w k : ℕ) : Type 0 where
 -- ---- bytes and texts, by the offsets in buffer b and the bytes in buffer b + 1
 
 -- The bytes of slot i, by the offsets in buffer b.
+
 abbrev pub bytes_at : Entries → ℕ → ℕ → ℕ → List ℕ
 bytes_at s b w i = slice_range (bytes s (b + 1)) (offset s b w i) (offset s b w (i + 1))
 

@@ -22,6 +22,7 @@ BufferCountLaw = (extra : ℕ) (fs : FieldTrees) (is : IdTrees) → all_buffers 
 -- ---- floats
 
 -- A type of numbers is no float.
+
 abbrev pub IsNoFloat : PrimitiveType → Type 0
 IsNoFloat Float16 = ⊥
 IsNoFloat Float32 = ⊥

@@ -1,6 +1,6 @@
 -- The array that a column is read to: of each buffer it has as much as its slots need. If offsets
--- are omitted, the array has the one offset 0. The contract of `ipc_read_nested` promises this array;
--- that of `ipc_read` promises the column's type and slots.
+-- are omitted, the array has the one offset 0. The contract of `ipc_read_nested` promises this
+-- array; that of `ipc_read` promises the column's type and slots.
 -- (Arrow columnar format, "Physical Memory Layout".)
 use Rattle.std.specs.Prelude.{◌≡◌, ℕ, ℤ, ◌+◌, ◌*◌, ◌==◌, Bool, List, [], ◌∷◌, map, take, if◌then◌else◌, Option, None, Some}
 use Rattle.std.specs.List.{range_with_len}
@@ -21,6 +21,7 @@ use Rattle.ipc_model.specs.Kinds.{OffsetWidth, offsets_32, offsets_64, offset_wi
 -- ---- what it has of a buffer
 
 -- The first k bits of buffer b.
+
 abbrev pub bits_of : Entries → ℕ → ℕ → List Bool
 bits_of s b k = map (λ i. bit (bytes_in s b) i) (range_with_len 0 k)
 
@@ -47,6 +48,7 @@ bytes_of s b n = take n (bytes_in s b)
 -- ---- types
 
 -- The type of the integers that offsets are.
+
 abbrev pub offset_type : OffsetWidth → PrimitiveType
 offset_type offsets_32 = numbers_in.Int32
 offset_type offsets_64 = numbers_in.Int64
@@ -75,6 +77,7 @@ other_fields (more_fields f fs) = fs
 -- ---- the array
 
 -- The children of an array that has one child.
+
 abbrev pub only : Layout → Layouts
 only c = more_layouts c no_layouts
 

@@ -66,6 +66,7 @@ size_of (negsuc n) = None
 -- ---- enumerations
 
 -- The byte order of a schema's buffers.
+
 abbrev pub order_of : Order → Endianness
 order_of Little = orders.Little
 order_of Big = orders.Big
@@ -91,6 +92,7 @@ mode_of Dense = modes.Dense
 -- ---- types without a child
 
 -- The integer type of a bit width and a sign.
+
 abbrev pub integer_of : ℤ → Bool → Option IntegerType
 integer_of width signed =
     if int_eq width (pos 8) then Some (if signed then Int8 else UInt8)

@@ -142,6 +142,7 @@ file_weight fs metadata pairs = weight fs metadata + pairs_weight pairs
 -- ---- schemas
 
 -- The largest number of dictionary fields.
+
 abbrev pub most_places : ℕ
 most_places = 65536
 

@@ -11,6 +11,7 @@ use Rattle.ipc_model.specs.WrittenLaws.{prefix, BeginsWithRecord}
 -- ---- calls
 
 -- A call of a stream writer: `start`, `write` of a chunk, or `finish`.
+
 pub data Call : Type 0 where
   start_call : Call
   write_call : Chunk → Call

@@ -25,6 +25,7 @@ pub record Numbers : Type 0 where
 -- ---- how they are written
 
 -- Bytes with zeros after them, up to a multiple of 64.
+
 abbrev pub padded : List ℕ → List ℕ
 padded bytes = bytes ++ replicate (next_multiple_of (length bytes) 64 - length bytes) 0
 
@@ -49,6 +50,7 @@ buffers_from o (c ∷ cs) =
 -- ---- what they mean
 
 -- The slots of a column of numbers.
+
 abbrev pub number_slots : Endianness → Numbers → List Slot
 number_slots order c =
     map (λ i. number_slot (number_in c.form order (drop (width_of c.form * i) c.bytes))) (range_with_len 0 c.rows)

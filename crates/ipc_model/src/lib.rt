@@ -6,9 +6,6 @@
 pub mod batches;
 pub mod columns;
 pub mod dictionaries;
-pub mod edges;
 pub mod files;
 pub mod frame;
-pub mod numbers;
-pub mod rows;
 pub mod streams;

@@ -84,6 +84,7 @@ number_form p = number_kind p
 -- ---- one level
 
 -- The node of a level.
+
 abbrev pub node_of : Level → FieldNode
 node_of h = record { length = pos h.len; null_count = pos (nulls_among h.parts h.len h.validity) }
 
@@ -108,6 +109,7 @@ AreBuffers order p v bs = ⊥
 -- ---- the levels of an array, one after the other
 
 -- Each level has its buffers, one list for each.
+
 abbrev pub HaveBuffers : Endianness → List Level → List (List (List ℕ)) → Type 0
 HaveBuffers order [] [] = Unit {0}
 HaveBuffers order (h ∷ hs) (bs ∷ bss) = AreBuffers order h.parts h.validity bs × HaveBuffers order hs bss

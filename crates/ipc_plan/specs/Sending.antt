@@ -1,6 +1,6 @@
 -- What a call that sends bytes does to its device.
-use Rattle.std.specs.Prelude.{◌≡◌, ℕ, ◌+◌, ◌<◌, ◌≤◌, ◌⊎◌, Bool, IsTrue, List, length, take, Result, OnOk, OnErr, IfErr}
-use Rattle.ipc_devices.specs.Device.{Memory, WritesOver, Rises}
+use Rattle.std.specs.Prelude.{◌≡◌, ℕ, ◌+◌, ◌<◌, ◌≤◌, ◌⊎◌, IsTrue, List, length, take, Result, OnOk, OnErr, IfErr}
+use Rattle.ipc_devices.specs.Device.{Device, Memory, Rises, WritesOver}
 use Rattle.ipc_devices.specs.Faults.{IsIo}
 use Rattle.ipc_devices.specs.declared.fault.Fault.{Fault}
 
@@ -10,26 +10,15 @@ pub record WritesSome (m m' : Memory) (bytes : List ℕ) : Type 0 where
   pub most : count ≤ length bytes
   pub over : WritesOver m m' (take count bytes)
 
--- What contracts know of a device: how many failures it counted, how many bytes it has room for,
--- and its bytes if it is memory.
-pub record DeviceSeen : Type 0 where
-  pub failures : ℕ
-  pub room : ℕ
-  pub memory : Memory
-
--- What contracts know of a device.
-abbrev pub seen_by : {W : Type 0} → (W → ℕ) → (W → ℕ) → (W → Memory) → W → DeviceSeen
-seen_by failures room memory device = record { failures = failures device; room = room device; memory = memory device }
-
--- A call that sends these bytes to a device. `known` says whether the device is memory, `grows`
--- whether it may have to grow. The only error is `Io`, if the device counted a failure or has too
--- little room; then a first part of the bytes was sent. If the call returns Ok, all were sent,
--- and no call of the device failed.
-pub record Sends {X : Type 0} (known grows : Bool) (d d' : DeviceSeen) (r : Result X Fault) (bytes : List ℕ) : Type 0 where
-  pub monotone : d.failures ≤ d'.failures
-  pub failed : OnErr r (Rises d.failures d'.failures ⊎ (IsTrue grows × (d.room < length bytes)))
+-- A call sends these bytes to a device, whose state it takes from a to b. Its only error is `Io`,
+-- if the device counted a failure or must grow and can't; a first part of the bytes was written
+-- then. If it is Ok, all were written, and no call of the device failed.
+pub record Sends {X W : Type 0} (d : Device W) (bytes : List ℕ) (a : W) (r : Result X Fault) (b : W) : Type 0 where
+  pub monotone : d.failures a ≤ d.failures b
+  pub failed : OnErr r (Rises (d.failures a) (d.failures b) ⊎ (IsTrue d.grows × (d.room a < length bytes)))
   pub only : IfErr r (λ e. IsIo e)
-  pub done : OnOk r (d'.failures ≡ d.failures)
-  pub memory : IsTrue known → OnOk r (WritesOver d.memory d'.memory bytes)
-  pub part : IsTrue known → WritesSome d.memory d'.memory bytes
-  pub room : OnOk r (d.room ≤ d'.room + length bytes)
+  pub done : OnOk r (d.failures b ≡ d.failures a)
+  pub memory : IsTrue d.is_memory → OnOk r (WritesOver (d.memory a) (d.memory b) bytes)
+  pub part : IsTrue d.is_memory → WritesSome (d.memory a) (d.memory b) bytes
+  pub room : OnOk r (d.room a ≤ d.room b + length bytes)
+  pub names : d.names b ≡ d.names a

@@ -3,7 +3,7 @@ ghost use Rattle.std.specs.Prelude.{◌≡◌, ◌+◌, ◌*◌, ◌/◌, ◌%�
 ghost use Rattle.std.specs.Int.{w32, w64, byte_len, cast_unsigned};
 ghost use Rattle.lower_types.specs.Numbers.{unsigned_bytes};
 ghost use Rattle.std.specs.List.{flat_map, range_with_len};
-ghost use Rattle.ipc_plan.specs.Sending.{Sends, seen_by};
+ghost use Rattle.ipc_plan.specs.Sending.{Sends};
 ghost use Rattle.ipc_model.specs.Entries.{bytes_for};
 ghost use Rattle.ipc_plan.specs.Pieces.{less, packed, packed_byte, piece_bytes, pieces_bytes};
 
@@ -19,8 +19,7 @@ const ZEROS: [u8; 64] = [0; 64];
 /// The only error is `Fault::Io`: the device failed, or it is memory that couldn't grow. Only the
 /// first bytes may have been sent then.
 pub fn send_bytes<W: Writes>(writer: &mut W, bytes: &[u8]) -> Result<(), Fault>
-    ensures { Sends W.known W.grows (seen_by W.failures W.room W.memory writer.old)
-        (seen_by W.failures W.room W.memory writer.new) result bytes.now }
+    ensures { Sends W.device bytes.now writer.old result writer.new }
 {
     let mut at = 0;
     while at < bytes.len() {
@@ -39,8 +38,7 @@ pub fn zeros(count: usize) -> &'static [u8]
 
 // Sends `count` zero bytes.
 fn send_zeros<W: Writes>(writer: &mut W, count: usize) -> Result<(), Fault>
-    ensures { Sends W.known W.grows (seen_by W.failures W.room W.memory writer.old)
-        (seen_by W.failures W.room W.memory writer.new) result (replicate count 0) }
+    ensures { Sends W.device (replicate count 0) writer.old result writer.new }
 {
     let mut left = count;
     while left > 0 {
@@ -73,8 +71,8 @@ fn send_numbers<T: NativeType, W: Writes>(
     block: &mut [u8],
 ) -> Result<(), Fault>
     requires { length block.old ≡ 4096 }
-    ensures sends { Sends W.known W.grows (seen_by W.failures W.room W.memory writer.old)
-        (seen_by W.failures W.room W.memory writer.new) result (flat_map (T.spelt order) values.now) }
+    ensures sends { Sends W.device (flat_map (T.spelt order) values.now) writer.old result
+        writer.new }
     ensures block { length block.new ≡ 4096 }
 {
     let width = T::width();
@@ -106,8 +104,9 @@ fn send_small_offsets<W: Writes>(
     block: &mut [u8],
 ) -> Result<(), Fault>
     requires { length block.old ≡ 4096 }
-    ensures sends { Sends W.known W.grows (seen_by W.failures W.room W.memory writer.old)
-        (seen_by W.failures W.room W.memory writer.new) result (flat_map (λ z. unsigned_bytes (byte_len w32) order (less w32 (2 ^ 32) first z)) offsets.now) }
+    ensures sends { Sends W.device
+        (flat_map (λ z. unsigned_bytes (byte_len w32) order (less w32 (2 ^ 32) first z))
+        offsets.now) writer.old result writer.new }
     ensures block { length block.new ≡ 4096 }
 {
     let mut lessened = [0u32; 1024];
@@ -140,8 +139,9 @@ fn send_large_offsets<W: Writes>(
     block: &mut [u8],
 ) -> Result<(), Fault>
     requires { length block.old ≡ 4096 }
-    ensures sends { Sends W.known W.grows (seen_by W.failures W.room W.memory writer.old)
-        (seen_by W.failures W.room W.memory writer.new) result (flat_map (λ z. unsigned_bytes (byte_len w64) order (less w64 (2 ^ 64) first z)) offsets.now) }
+    ensures sends { Sends W.device
+        (flat_map (λ z. unsigned_bytes (byte_len w64) order (less w64 (2 ^ 64) first z))
+        offsets.now) writer.old result writer.new }
     ensures block { length block.new ≡ 4096 }
 {
     let mut lessened = [0u64; 512];
@@ -215,8 +215,7 @@ fn send_bits<W: Writes>(
 ) -> Result<(), Fault>
     requires start { start < 8 }
     requires block { length block.old ≡ 4096 }
-    ensures sends { Sends W.known W.grows (seen_by W.failures W.room W.memory writer.old)
-        (seen_by W.failures W.room W.memory writer.new) result (packed bytes.now start count) }
+    ensures sends { Sends W.device (packed bytes.now start count) writer.old result writer.new }
     ensures block { length block.new ≡ 4096 }
 {
     let whole = count.div_ceil(8);
@@ -259,8 +258,7 @@ fn send_piece<W: Writes>(
     block: &mut [u8],
 ) -> Result<(), Fault>
     requires { length block.old ≡ 4096 }
-    ensures sends { Sends W.known W.grows (seen_by W.failures W.room W.memory writer.old)
-        (seen_by W.failures W.room W.memory writer.new) result (piece_bytes order piece.now) }
+    ensures sends { Sends W.device (piece_bytes order piece.now) writer.old result writer.new }
     ensures block { length block.new ≡ 4096 }
 {
     match piece {
@@ -304,8 +302,7 @@ pub fn send_pieces<W: Writes>(
     pieces: &[Piece<'_>],
     order: Endianness,
 ) -> Result<(), Fault>
-    ensures { Sends W.known W.grows (seen_by W.failures W.room W.memory writer.old)
-        (seen_by W.failures W.room W.memory writer.new) result (pieces_bytes order pieces.now) }
+    ensures { Sends W.device (pieces_bytes order pieces.now) writer.old result writer.new }
 {
     let mut block = [0u8; 4096];
     for piece in pieces {

@@ -1,8 +1,8 @@
 -- Blocks of a file that are shown, one after the other.
+use Rattle.ipc_devices.specs.Device.{Device}
 use Rattle.std.proofs.Common.{◌≡◌, ℕ, ◌+◌, ◌-◌, ◌<◌, List, [], ◌∷◌, ◌++◌, Bool, true, false, nat_le, None, Some, Ok, Err, refl, ap, rules, tests, arith}
 use Rattle.std.specs.Prelude.{vec_len}
 use Rattle.lower_arrays.specs.declared.array.AnyArray.{AnyArray}
-use Rattle.ipc_devices.specs.Device.{Memory}
 use Rattle.ipc_devices.specs.declared.fault.Fault.{Fault}
 use Rattle.ipc_files.specs.declared.read.file.metadata.FileMetadata.{FileMetadata}
 use Rattle.ipc_file_readers.specs.Readers.{Answer, NextStep, block_of, blocks_left, is_over, metadata_of}
@@ -16,12 +16,12 @@ use Rattle.ipc_programs.specs.Shown.{GaveBlocks}
 one_less : (n i j : ℕ) → nat_le n i ≡ false → j ≡ i + 1 → n - j < n - i
 one_less n i j more next = let within : i < n = search (rules, tests, more) in omega (arith, within, next)
 
-module _ {F : Type 0} (known still : Bool) (memory : F → Memory) (failures given : F → ℕ) where
+module _ {F : Type 0} (d : Device F) where
   abbrev Run : FileReader F → List Answer → Type 0
-  Run a rs = Calls known still memory failures given a rs
+  Run a rs = Calls d a rs
 
   abbrev Step : FileReader F → Answer → FileReader F → Type 0
-  Step a r b = NextStep known still memory failures given a r b
+  Step a r b = NextStep d a r b
 
   -- From state a on these chunks were returned, and then the reader is in state b.
   pub record HasGiven (a b : FileReader F) : Type 0 where
@@ -34,13 +34,13 @@ module _ {F : Type 0} (known still : Bool) (memory : F → Memory) (failures giv
   pub one_given : (first a b : FileReader F) (x : List AnyArray) → HasGiven first a → Step a (Some (Ok x)) b → HasGiven first b
   one_given first a b x so_far step = record {
     chunks = so_far.chunks ++ x ∷ [];
-    before = one_more known still memory failures given first a b so_far.chunks (so_far.chunks ++ x ∷ []) x refl step so_far.before;
+    before = one_more d first a b so_far.chunks (so_far.chunks ++ x ∷ []) x refl step so_far.before;
   }
 
-  pub then_fails : (first a b : FileReader F) (e : Fault) → HasGiven first a → Step a (Some (Err e)) b → GivesThenFails known still memory failures given first e
+  pub then_fails : (first a b : FileReader F) (e : Fault) → HasGiven first a → Step a (Some (Err e)) b → GivesThenFails d first e
   then_fails first a b e so_far step = record { chunks = so_far.chunks; calls = so_far.before (Some (Err e) ∷ []) (b, step, tt) }
 
-  pub then_nothing : (first a b : FileReader F) → HasGiven first a → Step a None b → GaveBlocks known still memory failures given first
+  pub then_nothing : (first a b : FileReader F) → HasGiven first a → Step a None b → GaveBlocks d first
   then_nothing first a b so_far step = record { chunks = so_far.chunks; all = record { calls = so_far.before (None ∷ []) (b, step, tt) } }
 
   -- If a chunk was returned, one block fewer is left.
@@ -50,6 +50,6 @@ module _ {F : Type 0} (known still : Bool) (memory : F → Memory) (failures giv
       by : (over : Bool) → is_over a ≡ over → blocks_left b < blocks_left a
       by true over = let none = (step.over over).0 in absurd cc
       by false more =
-          let same = ap (λ (m : FileMetadata). vec_len m.blocks) step.file.described in
+          let same = ap (λ (m : FileMetadata). vec_len m.blocks) step.state.file.described in
           let less = one_less (vec_len (metadata_of a).blocks) (block_of a) (block_of b) more (step.next more).block in
           omega (arith, same, less)

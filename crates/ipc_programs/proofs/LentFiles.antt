@@ -1,7 +1,7 @@
 -- What holds of a file writer with a lent device holds of one with the device itself.
 use Rattle.std.proofs.Common.{arith, ◌≡◌, ℕ, ◌+◌, ◌≤◌, Bool, true, List, [], ◌∷◌, ◌++◌, length, take, None, Err, inl, inr, ap, subst, sym, ◌∙◌}
 use Rattle.lower_arrays.specs.declared.array.AnyArray.{AnyArray}
-use Rattle.ipc_devices.specs.Device.{Memory, after, before}
+use Rattle.ipc_devices.specs.Device.{Device, Memory, after, before}
 use Rattle.ipc_devices.specs.declared.fault.ArgFault.TheVariants.{TooLarge}
 use Rattle.ipc_devices.specs.declared.fault.Fault.{Fault}
 use Rattle.ipc_devices.specs.declared.fault.Fault.TheVariants.{Argument}
@@ -14,12 +14,12 @@ use Rattle.ipc_file_write.specs.AppendLaws.{NoMore, Onward}
 use Rattle.ipc_file_write.specs.FileWriters.{AnswersFinish, FileIs, FileSeen, HoldsBytes, MayBeFinished}
 use Rattle.ipc_file_write.specs.Writes.{HaveBlocks, MayBeWritten, MissesWrite, Written, WritesExactly}
 use Rattle.ipc_convert.proofs.Own.{own}
-use Rattle.ipc_convert.specs.Refusals.{CopiesNoFile, CopiesNoStream, RefusesAsFile}
+use Rattle.ipc_convert.specs.Refusals.{CopyFileCause, CopyStreamCause, AsFileCause}
 use Rattle.ipc_convert.specs.Sinks.{TookBlocks}
 use Rattle.ipc_convert.specs.Steps.{BeginsFile}
 use Rattle.ipc_programs.specs.Named.{named}
 use Rattle.ipc_programs.specs.declared.convert.lent.LentWriter.{LentWriter}
-use Rattle.ipc_programs.proofs.Lending.{before_named, copies_no_file, copies_no_stream, lent_memory}
+use Rattle.ipc_programs.proofs.Lending.{before_named, copies_no_file, copies_no_stream, lent_device, lent_memory}
 
 -- ---- writers over another device
 
@@ -88,36 +88,36 @@ no_more_returned n m size h = let e = ap length (after_named n m) in omega (arit
 stripped : (n k : ℕ) (m : Memory) (base bytes : List ℕ) → before (named k m) ≡ (n ∷ base) ++ bytes → before m ≡ base ++ bytes
 stripped n k m base bytes e = let both : k ∷ before m ≡ n ∷ (base ++ bytes) = sym (before_named k m) ∙ e in cc
 
-module _ {O : Type 0} (known : Bool) (memory : O → Memory) where
+module _ {O : Type 0} (d : Device O) where
   -- The same writer with the device that was lent.
   abbrev returned : FileSeen (LentWriter O) → FileSeen O
   returned w = over w.device.device.now w
 
-  holds_lent : (is_stream : Bool) (w : FileSeen (LentWriter O)) (base : List ℕ) (cs : List Chunk) → HoldsBytes is_stream (memory w.device.device.now) (returned w) base cs
-      → HoldsBytes is_stream (lent_memory memory w.device) w (w.device.device.ghost_name ∷ base) cs
+  holds_lent : (is_stream : Bool) (w : FileSeen (LentWriter O)) (base : List ℕ) (cs : List Chunk) → HoldsBytes is_stream (d.memory w.device.device.now) (returned w) base cs
+      → HoldsBytes is_stream (lent_memory d w.device) w (w.device.device.ghost_name ∷ base) cs
   holds_lent is_stream w base cs h =
       let name = w.device.device.ghost_name in
       record {
         bytes = h.bytes;
-        held = before_named name (memory w.device.device.now) ∙ ap (λ (xs : List ℕ). name ∷ xs) h.held;
+        held = before_named name (d.memory w.device.device.now) ∙ ap (λ (xs : List ℕ). name ∷ xs) h.held;
         file = file_over (returned w) w.device is_stream w.state h.bytes cs h.file;
       }
 
-  holds_returned : (is_stream : Bool) (w : FileSeen (LentWriter O)) (name : ℕ) (base : List ℕ) (cs : List Chunk) → HoldsBytes is_stream (lent_memory memory w.device) w (name ∷ base) cs
-      → HoldsBytes is_stream (memory w.device.device.now) (returned w) base cs
+  holds_returned : (is_stream : Bool) (w : FileSeen (LentWriter O)) (name : ℕ) (base : List ℕ) (cs : List Chunk) → HoldsBytes is_stream (lent_memory d w.device) w (name ∷ base) cs
+      → HoldsBytes is_stream (d.memory w.device.device.now) (returned w) base cs
   holds_returned is_stream w name base cs h = record {
     bytes = h.bytes;
-    held = stripped name w.device.device.ghost_name (memory w.device.device.now) base h.bytes h.held;
+    held = stripped name w.device.device.ghost_name (d.memory w.device.device.now) base h.bytes h.held;
     file = file_over w w.device.device.now is_stream w.state h.bytes cs h.file;
   }
 
-  took_returned : (v : FileSeen (LentWriter O)) (cs : List Chunk) (w : FileSeen (LentWriter O)) → TookBlocks known (lent_memory memory) v cs w → TookBlocks known memory (returned v) cs (returned w)
+  took_returned : (v : FileSeen (LentWriter O)) (cs : List Chunk) (w : FileSeen (LentWriter O)) → TookBlocks (lent_device d) v cs w → TookBlocks d (returned v) cs (returned w)
   took_returned v cs w h =
       let t = h.takes in
       let n = v.device.device.ghost_name in
       let k = w.device.device.ghost_name in
-      let m = memory v.device.device.now in
-      let m' = memory w.device.device.now in
+      let m = d.memory v.device.device.now in
+      let m' = d.memory w.device.device.now in
       record {
         state = h.state;
         takes = record {
@@ -132,8 +132,8 @@ module _ {O : Type 0} (known : Bool) (memory : O → Memory) where
 
   -- From here on the device that was lent is `out`.
   module _ (lent : LentWriter O) (out : O) (was : lent.device.now ≡ out) where
-    begins_returned : (order : _) (fs es is ps : _) (w : FileSeen (LentWriter O)) → BeginsFile known (lent_memory memory) lent order fs es is ps w
-        → BeginsFile known memory out order fs es is ps (returned w)
+    begins_returned : (order : _) (fs es is ps : _) (w : FileSeen (LentWriter O)) → BeginsFile (lent_device d) lent order fs es is ps w
+        → BeginsFile d out order fs es is ps (returned w)
     begins_returned order fs es is ps w h = record {
       state = h.state;
       order_is = h.order_is;
@@ -143,14 +143,14 @@ module _ {O : Type 0} (known : Bool) (memory : O → Memory) where
       pairs_are = h.pairs_are;
       agrees = λ there.
           let name = lent.device.ghost_name in
-          let held : HoldsBytes true (lent_memory memory w.device) w (name ∷ before (memory lent.device.now)) [] =
-          subst (λ (base : List ℕ). HoldsBytes true (lent_memory memory w.device) w base []) (before_named name (memory lent.device.now)) (h.agrees there) in
-          rw (sym was) (holds_returned true w name (before (memory lent.device.now)) [] held);
+          let held : HoldsBytes true (lent_memory d w.device) w (name ∷ before (d.memory lent.device.now)) [] =
+          subst (λ (base : List ℕ). HoldsBytes true (lent_memory d w.device) w base []) (before_named name (d.memory lent.device.now)) (h.agrees there) in
+          rw (sym was) (holds_returned true w name (before (d.memory lent.device.now)) [] held);
     }
 
     -- What isn't written as a file to the one isn't to the other.
-    refuses_as_file : (order pairs : _) (first : List Chunk → Type 0) (schema : _) (e : Fault) → RefusesAsFile known (lent_memory memory) lent order pairs first schema e
-        → RefusesAsFile known memory out order pairs first schema e
+    refuses_as_file : (order pairs : _) (first : List Chunk → Type 0) (schema : _) (e : Fault) → AsFileCause (lent_device d) lent order pairs first schema e
+        → AsFileCause d out order pairs first schema e
     refuses_as_file order pairs first schema e (inl begin) = inl begin
     refuses_as_file order pairs first schema e (inr (inl (inl one))) = inr (inl (inl (record {
       before = one.before;
@@ -176,12 +176,12 @@ module _ {O : Type 0} (known : Bool) (memory : O → Memory) where
       refused = finish_over end.writer end.writer.device.device.now e end.refused;
     }))
 
-    pub stream_not_filed : (order : _) (bytes : List ℕ) (e : Fault) → CopiesNoStream (RefusesAsFile known (lent_memory memory) lent order []) bytes e → CopiesNoStream (RefusesAsFile known memory out order []) bytes e
+    pub stream_not_filed : (order : _) (bytes : List ℕ) (e : Fault) → CopyStreamCause (AsFileCause (lent_device d) lent order []) bytes e → CopyStreamCause (AsFileCause d out order []) bytes e
     stream_not_filed order bytes e h =
-        copies_no_stream (RefusesAsFile known (lent_memory memory) lent order []) (RefusesAsFile known memory out order []) bytes e (λ first schema. refuses_as_file order [] first schema e) h
+        copies_no_stream (AsFileCause (lent_device d) lent order []) (AsFileCause d out order []) bytes e (λ first schema. refuses_as_file order [] first schema e) h
 
-    pub file_not_filed : (order : _) (bytes : List ℕ) (e : Fault) → CopiesNoFile (λ first schema pairs fault. RefusesAsFile known (lent_memory memory) lent order pairs first schema fault) bytes e
-        → CopiesNoFile (λ first schema pairs fault. RefusesAsFile known memory out order pairs first schema fault) bytes e
+    pub file_not_filed : (order : _) (bytes : List ℕ) (e : Fault) → CopyFileCause (λ first schema pairs fault. AsFileCause (lent_device d) lent order pairs first schema fault) bytes e
+        → CopyFileCause (λ first schema pairs fault. AsFileCause d out order pairs first schema fault) bytes e
     file_not_filed order bytes e h =
-        copies_no_file (λ first schema pairs fault. RefusesAsFile known (lent_memory memory) lent order pairs first schema fault) (λ first schema pairs fault. RefusesAsFile known memory out order pairs first schema fault) bytes e
+        copies_no_file (λ first schema pairs fault. AsFileCause (lent_device d) lent order pairs first schema fault) (λ first schema pairs fault. AsFileCause d out order pairs first schema fault) bytes e
         (λ first schema pairs. refuses_as_file order pairs first schema e) h

@@ -1,13 +1,13 @@
 -- Each case is computed.
-use Rattle.std.specs.Prelude.{ℕ, Bool, List}
-use Rattle.ipc_devices.specs.Device.{Memory}
+use Rattle.ipc_devices.specs.Device.{Device}
+use Rattle.std.specs.Prelude.{ℕ, List}
 use Rattle.ipc_devices.specs.Gives.{Gives}
 use Rattle.ipc_devices.specs.declared.fault.Fault.{Fault}
 use Rattle.ipc_programs.specs.RefusalRows.{RefusalRows}
 
-pub refusal_rows : {R F A O : Type 0} (gives : Gives R) (fills : Bool) (source : R → Memory) (held : Bool) (contents : F → Memory) (kept : Bool) (bytes_of : A → Memory) (known : Bool) (memory : O → Memory) (input : R) (file : F) (target : A) (out : O) (path : List ℕ) (e : Fault)
-    → RefusalRows gives fills source held contents kept bytes_of known memory input file target out path e
-refusal_rows gives fills source held contents kept bytes_of known memory input file target out path e = record {
+pub refusal_rows : {R F A O : Type 0} (gives : Gives R) (source : Device R) (contents : Device F) (kept : Device A) (d : Device O) (input : R) (file : F) (target : A) (out : O) (path : List ℕ) (e : Fault)
+    → RefusalRows gives source contents kept d input file target out path e
+refusal_rows gives source contents kept d input file target out path e = record {
   input_to_stream = λ h. h;
   input_to_file = λ h. h;
   path_to_stream = λ h. h;

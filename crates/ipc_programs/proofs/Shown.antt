@@ -1,7 +1,6 @@
 -- Why what is requested isn't shown, call by call.
 use Rattle.std.proofs.Common.{◌≡◌, ◌≢◌, ◌⊎◌, ℕ, Bool, true, false, IsTrue, List, ◌++◌, length, Option, None, Some, Ok, Err, inl, inr, refl, sym, ap, subst, ◌∙◌, append_assoc, length-append, arith}
 use Rattle.ipc_base.specs.IdTrees.{all_ids_view}
-use Rattle.ipc_devices.specs.Device.{Memory}
 use Rattle.ipc_devices.specs.Faults.{OwnFault}
 use Rattle.ipc_devices.specs.Gives.{Follows, Gives, GivesAhead, GivesInOrder, Stop, going}
 use Rattle.ipc_devices.specs.declared.fault.Fault.{Fault}
@@ -25,19 +24,20 @@ use Rattle.ipc_file_readers.specs.declared.read.reader.state.FileReader.{FileRea
 use Rattle.ipc_round_trip.proofs.Chosen.{chosen_whole, names_others, none_readable}
 use Rattle.ipc_round_trip.proofs.Streams.{blames_front, stream_or}
 use Rattle.ipc_round_trip.specs.Choosing.{IsReadableBy, NamesOthers, chosen_stream_of}
-use Rattle.ipc_round_trip.specs.Reading.{BlamesStream, EndsAs}
+use Rattle.ipc_round_trip.specs.Reading.{StreamCause, EndsAs}
 use Rattle.ipc_file_round_trip.proofs.Files as files
 use Rattle.ipc_file_round_trip.proofs.Readings.{chunks_read, chunks_refused}
 use Rattle.ipc_file_round_trip.proofs.Reasons.{all_reason}
-use Rattle.ipc_file_round_trip.specs.Reading.{IsUnreadable, ReadingReason, chunks_seen}
+use Rattle.ipc_file_round_trip.specs.Reading.{IsUnreadable, ReadingCause, chunks_seen}
 use Rattle.ipc_file_round_trip.specs.Steps.{GivesThenFails}
 use Rattle.ipc_convert.proofs.Own.{own}
 use Rattle.ipc_convert.proofs.ReadStreams.{follows_going}
 use Rattle.ipc_convert.proofs.Refused.{given_so}
 use Rattle.ipc_convert.specs.Chunks.{AreTooMany, Copied, Moved, StopsCopy}
-use Rattle.ipc_convert.specs.Sources.{GaveChunks, GaveFault, StreamBreaks, StreamCame, StreamStopped, is_end, last_stop, meant_by}
+use Rattle.ipc_convert.specs.Sources.{GaveChunks, GaveFault, NextOfStreamCause, StreamCame, StreamStopped, is_end, last_stop, meant_by}
 use Rattle.ipc_convert.specs.declared.chunks.Ending.{Ending}
-use Rattle.ipc_programs.specs.CatRefusals.{FileHasOthers, HasTooMany, IsNoStream, OpensFile, OpensStream, ShowsNoFile, ShowsNoStream, StreamHasOthers}
+use Rattle.ipc_devices.specs.Device.{Device}
+use Rattle.ipc_programs.specs.CatRefusals.{FileHasOthers, HasTooMany, IsNoStream, OpensFile, OpensStream, ShowFileCause, ShowStreamCause, StreamHasOthers}
 use Rattle.ipc_programs.specs.Shown.{GaveBlocks, GivesReadable, ReadsFile}
 
 -- ---- errors
@@ -60,14 +60,14 @@ sound_end false (waits known begun) ends = λ f. absurd cc
 sound_end false marked ends = absurd ends
 sound_end false faulty ends = absurd ends
 
-module _ {R : Type 0} (gives : Gives R) (fills : Bool) (source : R → Memory) (ahead : GivesAhead fills gives source) (input : R) (p : Option (List ℕ)) where
+module _ {R : Type 0} (gives : Gives R) (source : Device R) (ahead : GivesAhead source gives) (input : R) (p : Option (List ℕ)) where
   -- a schema message that is refused
-  pub front_not_shown : (e : Fault) (device : R) → MetadataGave gives input (Err e) device → OwnFault e (ShowsNoStream gives fills source input p e)
-  front_not_shown e device front = own e (ShowsNoStream gives fills source input p e) (λ it.
-      given_so gives fills source ahead input device front.stop front.run.bytes (IsNoStream p e) front.run.gave (λ ys f.
+  pub front_not_shown : (e : Fault) (device : R) → MetadataGave gives input (Err e) device → OwnFault e (ShowStreamCause gives source input p e)
+  front_not_shown e device front = own e (ShowStreamCause gives source input p e) (λ it.
+      given_so gives source ahead input device front.stop front.run.bytes (IsNoStream p e) front.run.gave (λ ys f.
       let bytes = front.run.bytes ++ ys in
       let said : GivesMetadata bytes (frame bytes) (Err e) ys = front.run.holds ys f in
-      inl (it (¬ IsReadableBy p bytes) (none_readable p bytes bytes ys e refl said), it (BlamesStream bytes (chosen_stream_of p bytes) p e) (blames_front bytes bytes ys (chosen_stream_of p bytes) p e refl said))))
+      inl (it (¬ IsReadableBy p bytes) (none_readable p bytes bytes ys e refl said), it (StreamCause bytes (chosen_stream_of p bytes) p e) (blames_front bytes bytes ys (chosen_stream_of p bytes) p e refl said))))
 
 -- A reader that read the schema message, and then returned some chunks.
 module _ {R : Type 0} (gives : Gives R) (law : GivesInOrder gives) (input : R) (p : Option (List ℕ)) (r last : StreamReader R) (cs : List Chunk) (opens : OpensStream gives input p r) (came : StreamCame gives r cs last) where
@@ -137,13 +137,13 @@ module _ {R : Type 0} (gives : Gives R) (law : GivesInOrder gives) (input : R) (
         inr (record { head = Told; meant = meant; is = on.is; kind = subst (λ (h : Request). IsStreamFault h e) (One.asked ∙ asked) fault.kind }),
       ))
 
-  stops_not_shown : (fills : Bool) (source : R → Memory) (ahead : GivesAhead fills gives source) (e : Fault) → StreamBreaks gives last e ⊎ AreTooMany cs e → ShowsNoStream gives fills source input p e
-  stops_not_shown fills source ahead e (inl breaks) =
+  stops_not_shown : (source : Device R) (ahead : GivesAhead source gives) (e : Fault) → NextOfStreamCause gives last e ⊎ AreTooMany cs e → ShowStreamCause gives source input p e
+  stops_not_shown source ahead e (inl breaks) =
       let fault = breaks.1 in
-      given_so gives fills source ahead input fault.left fault.stop (Front ++ fault.bytes) (IsNoStream p e)
+      given_so gives source ahead input fault.left fault.stop (Front ++ fault.bytes) (IsNoStream p e)
       (law input Front (device_of last) fault.bytes fault.stop fault.left gave_front fault.gave) (λ ys f. is_refused e fault ys f)
-  stops_not_shown fills source ahead e (inr many) =
-      given_so gives fills source ahead input (device_of last) going Front (IsNoStream p e) gave_front (λ ys f. inr (has_too_many e many ys))
+  stops_not_shown source ahead e (inr many) =
+      given_so gives source ahead input (device_of last) going Front (IsNoStream p e) gave_front (λ ys f. inr (has_too_many e many ys))
 
   -- Nothing after them.
   end_shown : (c : StreamReader R) (ending : Ending) → StreamStopped gives last ending c → GivesReadable gives input p
@@ -169,10 +169,10 @@ pub chunks_shown : {R T : Type 0} (gives : Gives R) (law : GivesInOrder gives) (
 chunks_shown gives law input p r c took v w ending opens copied = end_shown gives law input p r copied.last copied.handed.chunks opens copied.handed.came_all c ending copied.stops
 
 -- Not all chunks were read.
-pub chunks_not_shown : {R T : Type 0} (gives : Gives R) (law : GivesInOrder gives) (input : R) (p : Option (List ℕ)) (r : StreamReader R) (took : Moved T) (v : T) (fills : Bool) (source : R → Memory) (ahead : GivesAhead fills gives source) (e : Fault)
-    → OpensStream gives input p r → StopsCopy (StreamCame gives) (StreamBreaks gives) took (λ a columns x. ⊥) r v e → ShowsNoStream gives fills source input p e
-chunks_not_shown gives law input p r took v fills source ahead e opens stops =
-    let shown = stops_not_shown gives law input p r stops.last stops.handed.chunks opens stops.handed.came_all fills source ahead e in
+pub chunks_not_shown : {R T : Type 0} (gives : Gives R) (law : GivesInOrder gives) (input : R) (p : Option (List ℕ)) (r : StreamReader R) (took : Moved T) (v : T) (source : Device R) (ahead : GivesAhead source gives) (e : Fault)
+    → OpensStream gives input p r → StopsCopy (StreamCame gives) (NextOfStreamCause gives) took (λ a columns x. ⊥) r v e → ShowStreamCause gives source input p e
+chunks_not_shown gives law input p r took v source ahead e opens stops =
+    let shown = stops_not_shown gives law input p r stops.last stops.handed.chunks opens stops.handed.came_all source ahead e in
     elim stops.why [
       | inl (inl breaks) ↦ shown (inl breaks)
       | inl (inr comes) ↦ absurd comes.refused
@@ -180,40 +180,40 @@ chunks_not_shown gives law input p r took v fills source ahead e opens stops =
     ]
 
 -- A schema that doesn't have the requested columns.
-module _ {R : Type 0} (gives : Gives R) (fills : Bool) (source : R → Memory) (ahead : GivesAhead fills gives source) (input device : R) (m : StreamMetadata) (front : MetadataGave gives input (Ok m) device) where
-  pub stream_has_others : (p : Option (List ℕ)) → ¬ IsProjection p (length m.schema.fields.items) → StreamHasOthers gives fills source input p
+module _ {R : Type 0} (gives : Gives R) (source : Device R) (ahead : GivesAhead source gives) (input device : R) (m : StreamMetadata) (front : MetadataGave gives input (Ok m) device) where
+  pub stream_has_others : (p : Option (List ℕ)) → ¬ IsProjection p (length m.schema.fields.items) → StreamHasOthers gives source input p
   stream_has_others None others = others tt
   stream_has_others (Some columns) others =
-      given_so gives fills source ahead input device front.stop front.run.bytes (NamesOthers columns) front.run.gave (λ ys f.
+      given_so gives source ahead input device front.stop front.run.bytes (NamesOthers columns) front.run.gave (λ ys f.
       let bytes = front.run.bytes ++ ys in
       names_others columns bytes bytes ys m refl (front.run.holds ys f) others)
 
 -- ---- a file
 
-module _ {F : Type 0} (held : Bool) (contents : F → Memory) (file : F) (p : Option (List ℕ)) (limit : Option ℕ) where
+module _ {F : Type 0} (contents : Device F) (file : F) (p : Option (List ℕ)) (limit : Option ℕ) where
   abbrev Bytes : List ℕ
-  Bytes = (contents file).whole
+  Bytes = (contents.memory file).whole
 
   -- a footer that is refused
-  pub footer_not_shown : (e : Fault) → (IsTrue held → (contents file).place ≡ 0 → OwnFault e (metadata_of Bytes ≡ None)) → (IsTrue held → OwnFault e (FileReason (contents file).place Bytes e))
-      → OwnFault e (ShowsNoFile held contents file p limit e)
-  footer_not_shown e none reason = own e (ShowsNoFile held contents file p limit e) (λ it. λ there front. (
+  pub footer_not_shown : (e : Fault) → (IsTrue contents.is_memory → (contents.memory file).place ≡ 0 → OwnFault e (metadata_of Bytes ≡ None)) → (IsTrue contents.is_memory → OwnFault e (FileReason (contents.memory file).place Bytes e))
+      → OwnFault e (ShowFileCause contents file p limit e)
+  footer_not_shown e none reason = own e (ShowFileCause contents file p limit e) (λ it. λ there front. (
     it (IsUnreadable p limit Bytes) (files.metadata_refused p limit Bytes e (none there front)),
-    it (ReadingReason p limit Bytes e) (files.metadata_reason p limit Bytes e (none there front) (subst (λ (n : ℕ). OwnFault e (FileReason n Bytes e)) front (reason there))),
+    it (ReadingCause p limit Bytes e) (files.metadata_reason p limit Bytes e (none there front) (subst (λ (n : ℕ). OwnFault e (FileReason n Bytes e)) front (reason there))),
   ))
 
   -- An error at a block.
-  pub blocks_not_shown : (still : Bool) (failures given : F → ℕ) (stays : IsTrue held → IsTrue still) (r : FileReader F) (e : Fault) → OpensFile held contents file p limit r
-      → OwnFault e (GivesThenFails held still contents failures given r e) → OwnFault e (ShowsNoFile held contents file p limit e)
-  blocks_not_shown still failures given stays r e opens fails = own e (ShowsNoFile held contents file p limit e) (λ it. λ there front.
+  pub blocks_not_shown : (stays : IsTrue contents.is_memory → IsTrue contents.is_read_only) (r : FileReader F) (e : Fault) → OpensFile contents file p limit r
+      → OwnFault e (GivesThenFails contents r e) → OwnFault e (ShowFileCause contents file p limit e)
+  blocks_not_shown stays r e opens fails = own e (ShowFileCause contents file p limit e) (λ it. λ there front.
       let m = opens.metadata in
-      let off = it (GivesThenFails held still contents failures given r e) fails in
+      let off = it (GivesThenFails contents r e) fails in
       let is = opens.footer there front in
       let same = opens.same there in (
         it (IsUnreadable p limit Bytes)
-            (files.columns_refused p limit Bytes m e opens.columns is (chunks_refused held still contents failures given stays there r opens.device m p limit Bytes opens.unread same e (inr off))),
-        it (ReadingReason p limit Bytes e)
-            (files.chunks_reason p limit Bytes (file_seen m) e is (all_reason held still contents failures given stays there r opens.device m p limit Bytes opens.unread same e (inr off))),
+            (files.columns_refused p limit Bytes m e opens.columns is (chunks_refused contents stays there r opens.device m p limit Bytes opens.unread same e (inr off))),
+        it (ReadingCause p limit Bytes e)
+            (files.chunks_reason p limit Bytes (file_seen m) e is (all_reason contents stays there r opens.device m p limit Bytes opens.unread same e (inr off))),
       ))
 
 -- Columns are those of a schema if there are as many fields.
@@ -221,21 +221,21 @@ columns_are : (p : Option (List ℕ)) (m : FileMetadata) → IsProjection p (len
 columns_are p m is = subst (λ (n : ℕ). IsProjection p n) (sym (field_count m.schema.fields.items (all_ids_view m.ipc_schema.fields.items))) is
 
 -- All blocks were returned.
-pub blocks_shown : {F : Type 0} (held still : Bool) (contents : F → Memory) (failures given : F → ℕ) (stays : IsTrue held → IsTrue still) (file : F) (p : Option (List ℕ)) (limit : Option ℕ) (r : FileReader F)
-    → OpensFile held contents file p limit r → GaveBlocks held still contents failures given r → ReadsFile held contents file p limit
-blocks_shown held still contents failures given stays file p limit r opens gave = λ there front.
+pub blocks_shown : {F : Type 0} (contents : Device F) (stays : IsTrue contents.is_memory → IsTrue contents.is_read_only) (file : F) (p : Option (List ℕ)) (limit : Option ℕ) (r : FileReader F)
+    → OpensFile contents file p limit r → GaveBlocks contents r → ReadsFile contents file p limit
+blocks_shown contents stays file p limit r opens gave = λ there front.
     let m = opens.metadata in
-    let bytes = (contents file).whole in
+    let bytes = (contents.memory file).whole in
     let chunks = chunks_seen gave.chunks in
     record {
       meant = record { metadata = file_seen m; chunks = chunks };
       is = files.meant_with p limit bytes (file_seen m) (Some chunks) (opens.footer there front)
-          (chunks_read held still contents failures given stays there r opens.device m p limit bytes opens.unread (opens.same there) gave.chunks gave.all);
+          (chunks_read contents stays there r opens.device m p limit bytes opens.unread (opens.same there) gave.chunks gave.all);
       columns = columns_are p m opens.columns;
     }
 
 -- A schema that doesn't have the requested columns.
-pub file_has_others : {F : Type 0} (held : Bool) (contents : F → Memory) (file : F) (p : Option (List ℕ)) (m : FileMetadata) → (IsTrue held → (contents file).place ≡ 0 → metadata_of (contents file).whole ≡ Some (file_seen m))
-    → ¬ IsProjection p (length m.schema.fields.items) → FileHasOthers held contents file p
-file_has_others held contents file None m footer others = others tt
-file_has_others held contents file (Some columns) m footer others = λ there front. files.names_others (Some columns) (contents file).whole m (footer there front) others
+pub file_has_others : {F : Type 0} (contents : Device F) (file : F) (p : Option (List ℕ)) (m : FileMetadata) → (IsTrue contents.is_memory → (contents.memory file).place ≡ 0 → metadata_of (contents.memory file).whole ≡ Some (file_seen m))
+    → ¬ IsProjection p (length m.schema.fields.items) → FileHasOthers contents file p
+file_has_others contents file None m footer others = others tt
+file_has_others contents file (Some columns) m footer others = λ there front. files.names_others (Some columns) (contents.memory file).whole m (footer there front) others

@@ -1,3 +1,4 @@
+pub mod Api
 pub mod CatRefusals
 pub mod CatRows
 pub mod CatWords

@@ -1,8 +1,8 @@
 -- Lines that report errors.
-use Rattle.std.specs.Prelude.{◌≡◌, Bool, codes}
+use Rattle.ipc_devices.specs.Device.{Device}
+use Rattle.std.specs.Prelude.{◌≡◌, codes}
 use Rattle.ipc_devices.specs.declared.fault.Fault.TheVariants.{Ended, Io, Memory}
-use Rattle.ipc_plan.specs.Sending.{DeviceSeen}
-use Rattle.ipc_programs.specs.Lines.{TellsWhy, Told, line_of}
+use Rattle.ipc_programs.specs.Lines.{WritesCause, Told, line_of}
 
 -- An error of either program: the name, a colon, a blank, the class, and the end of the line.
 pub record LineRows : Type 0 where
@@ -12,6 +12,6 @@ pub record LineRows : Type 0 where
 
 -- The reported line is that of the error that the reason names, and of no other;
 -- without a reason nothing is reported.
-pub record ReasonRows (known grows : Bool) (d d' : DeviceSeen) : Type 0 where
-  pub of_one : TellsWhy (codes "ipconvert") (λ e. e ≡ Ended) known grows d d' → Told known grows d d' (codes "ipconvert: input ended\n")
-  pub of_none : ¬ TellsWhy (codes "ipconvert") (λ e. ⊥) known grows d d'
+pub record ReasonRows {W : Type 0} (d : Device W) (w w' : W) : Type 0 where
+  pub of_one : WritesCause (codes "ipconvert") (λ e. e ≡ Ended) d w w' → Told d w w' (codes "ipconvert: input ended\n")
+  pub of_none : ¬ WritesCause (codes "ipconvert") (λ e. ⊥) d w w'

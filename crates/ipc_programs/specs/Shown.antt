@@ -1,11 +1,11 @@
 -- What `ipcat` showed can be read.
 -- (Arrow columnar format, "IPC Streaming Format" and "IPC File Format".)
-use Rattle.std.specs.Prelude.{◌≡◌, ℕ, Bool, IsTrue, List, Option, None, Some}
+use Rattle.std.specs.Prelude.{◌≡◌, ℕ, IsTrue, List, Option, None, Some}
 use Rattle.lower_arrays.specs.declared.array.AnyArray.{AnyArray}
-use Rattle.ipc_devices.specs.Device.{Memory}
 use Rattle.ipc_convert.specs.Chunks.{Copied, CopiedOne, Moved, RefusesAt, StopsCopy}
-use Rattle.ipc_convert.specs.Sources.{StreamBreaks, StreamCame, StreamStopped}
+use Rattle.ipc_convert.specs.Sources.{NextOfStreamCause, StreamCame, StreamStopped}
 use Rattle.ipc_convert.specs.declared.chunks.Ending.{Ending}
+use Rattle.ipc_devices.specs.Device.{Device}
 use Rattle.ipc_devices.specs.Gives.{Gives, Stop}
 use Rattle.ipc_devices.specs.declared.fault.Fault.{Fault}
 use Rattle.ipc_model.specs.Batches.{IsProjection, kinds}
@@ -44,7 +44,7 @@ module _ {R : Type 0} (gives : Gives R) where
 
   -- After some of the chunks this error comes, or there are too many.
   abbrev pub StopsComing : StreamReader R → Fault → Type 0
-  StopsComing a e = StopsCopy (StreamCame gives) (StreamBreaks gives) anything nothing_refused a tt e
+  StopsComing a e = StopsCopy (StreamCame gives) (NextOfStreamCause gives) anything nothing_refused a tt e
 
 -- A file has a meaning by the requested columns, which it has, and up to the limit.
 pub record IsReadableFile (asked : Option (List ℕ)) (limit : Option ℕ) (bytes : List ℕ) : Type 0 where
@@ -54,20 +54,19 @@ pub record IsReadableFile (asked : Option (List ℕ)) (limit : Option ℕ) (byte
 
 -- The file at offset 0 of a device that is memory has a meaning by the requested columns,
 -- which it has, and up to the limit.
-abbrev pub ReadsFile : {F : Type 0} → Bool → (F → Memory) → F → Option (List ℕ) → Option ℕ → Type 0
-ReadsFile held contents device asked limit = IsTrue held → (contents device).place ≡ 0 → IsReadableFile asked limit (contents device).whole
+abbrev pub ReadsFile : {F : Type 0} → Device F → F → Option (List ℕ) → Option ℕ → Type 0
+ReadsFile contents device asked limit = IsTrue contents.is_memory → (contents.memory device).place ≡ 0 → IsReadableFile asked limit (contents.memory device).whole
 
 -- A file reader returned some chunks, and then None.
-pub record GaveBlocks {F : Type 0} (known still : Bool) (memory : F → Memory) (failures given : F → ℕ) (a : FileReader F) : Type 0 where
+pub record GaveBlocks {F : Type 0} (d : Device F) (a : FileReader F) : Type 0 where
   pub chunks : List (List AnyArray)
-  pub all : GivesAll known still memory failures given a chunks
+  pub all : GivesAll d a chunks
 
--- `gives` says which bytes the input gives, `held` whether the opened file
--- is memory whose bytes are known.
-module _ {R F : Type 0} (gives : Gives R) (held : Bool) (contents : F → Memory) where
+-- `gives` says which bytes the input gives, `contents` what is known of an opened file.
+module _ {R F : Type 0} (gives : Gives R) (contents : Device F) where
   -- What was shown can be read, by what was requested; a requested file was opened.
   abbrev pub Shows : Wanted → R → Option F → Type 0
   Shows demo input device = Unit {0}
   Shows (stream asked) input device = GivesReadable gives input asked
-  Shows (file path asked limit) input (Some device) = ReadsFile held contents device asked limit
+  Shows (file path asked limit) input (Some device) = ReadsFile contents device asked limit
   Shows (file path asked limit) input None = ⊥

@@ -1,6 +1,6 @@
 -- What `ipconvert` has written if it succeeds.
-use Rattle.std.specs.Prelude.{◌≡◌, ℕ, Bool, IsTrue, [], Option, None, Some}
-use Rattle.ipc_devices.specs.Device.{Memory}
+use Rattle.std.specs.Prelude.{◌≡◌, IsTrue, [], Option, None, Some}
+use Rattle.ipc_devices.specs.Device.{Device, Memory}
 use Rattle.ipc_devices.specs.Gives.{Gives}
 use Rattle.ipc_encode.specs.declared.common.WriteOptions.{WriteOptions}
 use Rattle.ipc_model.specs.Streams.{marked}
@@ -18,25 +18,24 @@ CopiesInput gives a b FileTarget options old new = CopiesStream gives a b (λ sc
 
 -- The file at offset 0 of a device that is memory was written to the target. It is a stream that
 -- ends with the mark, or a file with its pairs.
-abbrev pub CopiesOpened : {F : Type 0} → Bool → (F → Memory) → F → Target → WriteOptions → (old new : Memory) → Type 0
-CopiesOpened known memory file Stream options old new = CopiesFileOf known memory file (λ schema _ cs. WritesStream (order_of options) old new schema cs marked)
-CopiesOpened known memory file FileTarget options old new = CopiesFileOf known memory file (WritesFile (order_of options) old new)
+abbrev pub CopiesOpened : {F : Type 0} → Device F → F → Target → WriteOptions → (old new : Memory) → Type 0
+CopiesOpened d file Stream options old new = CopiesFileOf d file (λ schema _ cs. WritesStream (order_of options) old new schema cs marked)
+CopiesOpened d file FileTarget options old new = CopiesFileOf d file (WritesFile (order_of options) old new)
 
--- `gives` says which bytes the input gives, `known` whether the device of a file
--- is memory whose bytes are known.
-module _ {R F : Type 0} (gives : Gives R) (known : Bool) (memory : F → Memory) where
+-- `gives` says which bytes the input gives, `d` what is known of the device of a file.
+module _ {R F : Type 0} (gives : Gives R) (d : Device F) where
   -- If a copy was requested, it was written after the earlier bytes of the output: of the input,
   -- or of the file that was opened.
   abbrev pub CopiesAsAsked : Wanted → (a b : R) → Option F → (old new : Memory) → Type 0
   CopiesAsAsked (copy None target options) a b file old new = CopiesInput gives a b target options old new
-  CopiesAsAsked (copy (Some path) target options) a b (Some device) old new = CopiesOpened known memory device target options old new
+  CopiesAsAsked (copy (Some path) target options) a b (Some device) old new = CopiesOpened d device target options old new
   CopiesAsAsked (copy (Some path) target options) a b None old new = ⊥
   CopiesAsAsked (append path) a b file old new = Unit {0}
 
   -- If appending was requested, the file was opened, and the stream of the input was appended to it
   -- in a state of its device. Up to that state no call of the device failed.
-  abbrev pub Appended : (failures : F → ℕ) → Wanted → (a b : R) → Option F → Type 0
-  Appended failures (copy from target options) a b file = Unit {0}
-  Appended failures (append path) a b None = ⊥
-  Appended failures (append path) a b (Some device) = (last : F) × (failures last ≡ failures device)
-      × (IsTrue known → (memory device).place ≡ 0 → CopiesStream gives a b (λ schema cs _. AppendsTo (memory device).whole (memory last).whole schema cs))
+  abbrev pub Appended : Wanted → (a b : R) → Option F → Type 0
+  Appended (copy from target options) a b file = Unit {0}
+  Appended (append path) a b None = ⊥
+  Appended (append path) a b (Some device) = (last : F) × (d.failures last ≡ d.failures device)
+      × (IsTrue d.is_memory → (d.memory device).place ≡ 0 → CopiesStream gives a b (λ schema cs _. AppendsTo (d.memory device).whole (d.memory last).whole schema cs))

@@ -1,10 +1,10 @@
 //! `ipcat`: writes an example as an Arrow IPC stream, and prints streams and files.
 ghost use Rattle.std.specs.Prelude.{◌≡◌, ◌⊎◌, ◌≤◌, codes, map, option_and_then, option_map, string_bytes, false, None, Ok, Err, IfErr, IfOk, IfSome, IsSome, OnOk};
 ghost use Rattle.ipc_devices.specs.Faults.{IsIo, OwnFault};
-ghost use Rattle.ipc_plan.specs.Sending.{seen_by};
-ghost use Rattle.ipc_programs.specs.Lines.{TellsWhy, Told};
+ghost use Rattle.ipc_programs.specs.Api.{CatCause, CatState, RunsCat};
+ghost use Rattle.ipc_programs.specs.Lines.{Told};
 ghost use Rattle.ipc_programs.specs.Printing.{Printed, Prints, PrintsAll};
-ghost use Rattle.ipc_programs.specs.CatRefusals.{AsksForOthers, FileHasOthers, ShowsNoFile, ShowsNothing};
+ghost use Rattle.ipc_programs.specs.CatRefusals.{AsksForOthers, FileHasOthers, ShowFileCause, ShowCause};
 ghost use Rattle.ipc_programs.specs.CatWords.{HasNumbers, NamesNumbers, asked, columns_by, wanted_by, opened_for, reads_input};
 ghost use Rattle.ipc_programs.specs.Shown.{ReadsFile, Shows};
 ghost use Rattle.ipc_programs.specs.declared.cat.show.Outcome.TheVariants.{Done, WrongWords};
@@ -35,7 +35,8 @@ const USAGE: &str = "usage: ipcat demo | ipcat stream [COLS] | ipcat file PATH [
 
 /// The path that the arguments name; None if there is none or they are wrong.
 pub fn path_of(words: &[String]) -> Option<&str>
-    ensures { option_map (λ path. path.now) result ≡ option_and_then opened_for (asked (map string_bytes words.now)) }
+    ensures { option_map (λ path. path.now) result
+        ≡ option_and_then opened_for (asked (map string_bytes words.now)) }
 {
     match form_of(words)? {
         Form::File(file) => Some(file.path),
@@ -70,24 +71,15 @@ pub fn run<R: Reads, F: Reads + Seeks + Drop, O: Writes, E: Writes>(
     err: &mut E,
 ) -> u8
     ensures status { result ≤ 2 }
-    ensures usage { asked (map string_bytes words.now) ≡ None → result ≡ 2 }
-    ensures unopened { IfSome (option_and_then opened_for (asked (map string_bytes words.now))) (λ path. file ≡ None → result ≡ 1) }
-    ensures unread { IfSome (asked (map string_bytes words.now)) (λ form. reads_input form ≡ false → input.new ≡ input.old) }
-    ensures line { result ≡ 1 → TellsWhy (codes "ipcat") (λ e. IfSome (asked (map string_bytes words.now)) (λ form. OwnFault e
-        (ShowsNothing R.gives R.known R.memory F.known F.memory form input.old file e)))
-        E.known E.grows (seen_by E.failures E.room E.memory err.old) (seen_by E.failures E.room E.memory err.new) }
+    ensures exact { result ≡ 0 → RunsCat R.gives F.device O.device
+        (asked (map string_bytes words.now)) input.old file out.old out.new err.old err.new }
+    ensures causes { CatCause R.gives R.device F.device E.device
+        (asked (map string_bytes words.now)) input.old file result err.old err.new USAGE.now }
     ensures unopened_told { IfSome (option_and_then opened_for (asked (map string_bytes words.now)))
-        (λ path. file ≡ None → Told E.known E.grows
-        (seen_by E.failures E.room E.memory err.old) (seen_by E.failures E.room E.memory err.new) (codes "ipcat: input or output failed\n")) }
-    ensures shown { result ≡ 0 → IfSome (asked (map string_bytes words.now)) (λ form.
-        Shows R.gives F.known F.memory form input.old file) }
-    ensures wrong { result ≡ 2 → IfSome (asked (map string_bytes words.now)) (λ form.
-        AsksForOthers R.gives R.known R.memory F.known F.memory form input.old file) }
-    ensures silent { result ≡ 0 → err.new ≡ err.old }
-    ensures usage_told { result ≡ 2 → Told E.known E.grows
-        (seen_by E.failures E.room E.memory err.old) (seen_by E.failures E.room E.memory err.new) USAGE.now }
-    ensures printed { result ≡ 0 → Printed O.known O.failures O.memory out.old out.new }
-    ensures untouched { asked (map string_bytes words.now) ≡ None → (input.new ≡ input.old) × (out.new ≡ out.old) }
+        (λ path. file ≡ None → Told E.device err.old err.new
+        (codes "ipcat: input or output failed\n")) }
+    ensures state { CatState (asked (map string_bytes words.now))
+        input.old input.new out.old out.new }
 {
     let outcome = match form_of(words) {
         Some(form) => run_form(alloc, form, input, file, out),
@@ -116,11 +108,14 @@ fn run_form<R: Reads, F: Reads + Seeks + Drop, O: Writes>(
     requires { HasNumbers form }
     ensures unopened { IfSome (opened_for (wanted_by form.entry)) (λ path. IfOk result (λ _. IsSome file)) }
     ensures missing { IfSome (opened_for (wanted_by form.entry)) (λ path. file ≡ None → IfErr result IsIo) }
-    ensures shown { IfOk result (λ outcome. outcome ≡ Done → Shows R.gives F.known F.memory (wanted_by form.entry) input.old file) }
-    ensures wrong { IfOk result (λ outcome. outcome ≡ WrongWords → AsksForOthers R.gives R.known R.memory F.known F.memory (wanted_by form.entry) input.old file) }
+    ensures shown { IfOk result (λ outcome. outcome ≡ Done
+        → Shows R.gives F.device (wanted_by form.entry) input.old file) }
+    ensures wrong { IfOk result (λ outcome. outcome ≡ WrongWords
+        → AsksForOthers R.gives R.device F.device (wanted_by form.entry) input.old file) }
     ensures unread { reads_input (wanted_by form.entry) ≡ false → input.new ≡ input.old }
-    ensures refused { IfErr result (λ e. OwnFault e (ShowsNothing R.gives R.known R.memory F.known F.memory (wanted_by form.entry) input.old file e)) }
-    ensures printed { OnOk result (Printed O.known O.failures O.memory out.old out.new) }
+    ensures refused { IfErr result (λ e. OwnFault e (ShowCause R.gives R.device F.device
+        (wanted_by form.entry) input.old file e)) }
+    ensures printed { OnOk result (Printed O.device out.old out.new) }
 {
     let mut printer = Printer::new(alloc, out);
     let outcome = print_form(alloc, form, input, file, &mut printer);
@@ -142,15 +137,13 @@ fn print_form<R: Reads, F: Reads + Seeks + Drop, O: Writes>(
     ensures missing { IfSome (opened_for (wanted_by form.entry))
         (λ path. file ≡ None → IfErr result IsIo) }
     ensures shown { IfOk result (λ outcome. outcome ≡ Done
-        → Shows R.gives F.known F.memory (wanted_by form.entry) input.old file) }
+        → Shows R.gives F.device (wanted_by form.entry) input.old file) }
     ensures wrong { IfOk result (λ outcome. outcome ≡ WrongWords
-        → AsksForOthers R.gives R.known R.memory F.known F.memory (wanted_by form.entry)
-        input.old file) }
+        → AsksForOthers R.gives R.device F.device (wanted_by form.entry) input.old file) }
     ensures unread { reads_input (wanted_by form.entry) ≡ false → input.new ≡ input.old }
-    ensures refused { IfErr result (λ e. OwnFault e
-        (ShowsNothing R.gives R.known R.memory F.known F.memory (wanted_by form.entry)
-        input.old file e)) }
-    ensures prints { OnOk result (PrintsAll O.known O.failures O.memory printer.old printer.new) }
+    ensures refused { IfErr result (λ e. OwnFault e (ShowCause R.gives R.device F.device
+        (wanted_by form.entry) input.old file e)) }
+    ensures prints { OnOk result (PrintsAll O.device printer.old printer.new) }
 {
     match form {
         Form::Demo => {
@@ -171,7 +164,7 @@ fn print_form<R: Reads, F: Reads + Seeks + Drop, O: Writes>(
 fn show_demo<O: Writes>(alloc: Global, printer: &mut Printer<O>) -> Result<Outcome, Fault>
     ensures done { IfOk result (λ outcome. outcome ≡ Done) }
     ensures only { IfErr result (λ e. OwnFault e ⊥) }
-    ensures prints { OnOk result (Prints O.known O.failures O.memory printer.old printer.new) }
+    ensures prints { OnOk result (Prints O.device printer.old printer.new) }
 {
     put_demo(alloc, printer)?;
     Ok(Outcome::Done)
@@ -185,7 +178,7 @@ fn sent<O: Writes>(
     ensures same { IfOk result (λ outcome. shown ≡ Ok outcome) }
     ensures first { IfErr shown (λ fault. result ≡ Err fault) }
     ensures fault { IfErr result (λ e. (shown ≡ Err e) ⊎ OwnFault e ⊥) }
-    ensures all { OnOk result (PrintsAll O.known O.failures O.memory printer.old printer.new) }
+    ensures all { OnOk result (PrintsAll O.device printer.old printer.new) }
 {
     let sent = printer.send();
     let outcome = shown?;
@@ -202,10 +195,13 @@ fn show_opened<F: Reads + Seeks + Drop, O: Writes>(
     requires { NamesNumbers words.columns }
     ensures opened { IfOk result (λ _. IsSome file) }
     ensures missing { file ≡ None → IfErr result IsIo }
-    ensures shown { IfSome file (λ device. IfOk result (λ outcome. outcome ≡ Done → ReadsFile F.known F.memory device (columns_by words.entry.columns) words.entry.limit)) }
-    ensures wrong { IfSome file (λ device. IfOk result (λ outcome. outcome ≡ WrongWords → FileHasOthers F.known F.memory device (columns_by words.entry.columns))) }
-    ensures refused { IfSome file (λ device. IfErr result (λ e. OwnFault e (ShowsNoFile F.known F.memory device (columns_by words.entry.columns) words.entry.limit e))) }
-    ensures prints { OnOk result (Prints O.known O.failures O.memory printer.old printer.new) }
+    ensures shown { IfSome file (λ device. IfOk result (λ outcome. outcome ≡ Done
+        → ReadsFile F.device device (columns_by words.entry.columns) words.entry.limit)) }
+    ensures wrong { IfSome file (λ device. IfOk result (λ outcome. outcome ≡ WrongWords
+        → FileHasOthers F.device device (columns_by words.entry.columns))) }
+    ensures refused { IfSome file (λ device. IfErr result (λ e. OwnFault e
+        (ShowFileCause F.device device (columns_by words.entry.columns) words.entry.limit e))) }
+    ensures prints { OnOk result (Prints O.device printer.old printer.new) }
 {
     show_file(alloc, opened(file)?, words, printer)
 }

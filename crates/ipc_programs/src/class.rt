@@ -1,6 +1,6 @@
 //! The classes of errors that the programs print.
 ghost use Rattle.std.specs.Prelude.{◌≡◌};
-ghost use Rattle.ipc_plan.specs.Sending.{Sends, seen_by};
+ghost use Rattle.ipc_plan.specs.Sending.{Sends};
 ghost use Rattle.ipc_programs.specs.Classes.{class};
 ghost use Rattle.ipc_programs.specs.Lines.{line_of};
 
@@ -29,8 +29,7 @@ pub fn class_of(fault: &Fault) -> &'static str
 ///
 /// `Io` if that fails.
 pub fn tell<E: Writes>(err: &mut E, program: &str, fault: &Fault) -> Result<(), Fault>
-    ensures sends { Sends E.known E.grows (seen_by E.failures E.room E.memory err.old)
-        (seen_by E.failures E.room E.memory err.new) result (line_of program.now fault.now) }
+    ensures sends { Sends E.device (line_of program.now fault.now) err.old result err.new }
 {
     write_all(err, program.as_bytes())?;
     write_all(err, b": ")?;

@@ -1,11 +1,11 @@
 //! `ipconvert`: copies Arrow IPC streams and files, and appends streams to files.
-ghost use Rattle.std.specs.Prelude.{◌≡◌, ◌⊎◌, ◌≤◌, codes, ◌↔◌, map, option_and_then, option_map, string_bytes, false, true, None, Some, Ok, Err, IfErr, IfOk, IfSome, IsTrue, OnOk};
+ghost use Rattle.std.specs.Prelude.{◌≡◌, ◌⊎◌, ◌≤◌, codes, map, option_and_then, option_map, string_bytes, false, true, None, Some, Ok, Err, IfErr, IfOk, IfSome, IsTrue, OnOk};
 ghost use Rattle.ipc_devices.specs.Faults.{IsIo, OwnFault};
 ghost use Rattle.ipc_convert.specs.Chunks.{NoneFailed};
 ghost use Rattle.ipc_convert.specs.Copies.{TakesStream};
-ghost use Rattle.ipc_plan.specs.Sending.{seen_by};
-ghost use Rattle.ipc_programs.specs.Lines.{TellsWhy, Told};
-ghost use Rattle.ipc_programs.specs.Refusals.{RefusesAsAsked};
+ghost use Rattle.ipc_programs.specs.Api.{ConvertCause, ConvertState, RunsConvert};
+ghost use Rattle.ipc_programs.specs.Lines.{Told};
+ghost use Rattle.ipc_programs.specs.Refusals.{AskedCause};
 ghost use Rattle.ipc_programs.specs.ConvertWords.{IsMissing, IsOpened, asked, wanted_by, place_for, reads_input, writes_output};
 ghost use Rattle.ipc_programs.specs.Written.{Appended, CopiesAsAsked};
 
@@ -31,7 +31,8 @@ const USAGE: &str = "usage: ipconvert FROM TO [ORDER] | ipconvert append PATH\n"
 ///
 /// None if there is none or they are wrong.
 pub fn place_of(words: &[String]) -> Option<Place<'_>>
-    ensures { option_map (λ place. (place.path.now, place.is_written)) result ≡ option_and_then place_for (asked (map string_bytes words.now)) }
+    ensures { option_map (λ place. (place.path.now, place.is_written)) result
+        ≡ option_and_then place_for (asked (map string_bytes words.now)) }
 {
     place_in(form_of(words)?)
 }
@@ -80,33 +81,17 @@ pub fn run<
     err: &mut E,
 ) -> u8
     ensures status { result ≤ 2 }
-    ensures usage { (result ≡ 2) ↔ (asked (map string_bytes words.now) ≡ None) }
-    ensures unopened { IfSome (option_and_then place_for (asked (map string_bytes words.now)))
-        (λ place. IsMissing place.1 file append_to → result ≡ 1) }
-    ensures unread { IfSome (asked (map string_bytes words.now)) (λ form. reads_input form ≡ false → input.new ≡ input.old) }
-    ensures unwritten { IfSome (asked (map string_bytes words.now)) (λ form. writes_output form ≡ false → out.new ≡ out.old) }
-    ensures line { result ≡ 1 → TellsWhy (codes "ipconvert") (λ e. IfSome (asked (map string_bytes words.now)) (λ form. OwnFault e
-        (RefusesAsAsked R.gives R.known R.memory F.known F.memory A.known A.memory O.known O.memory
-        form input.old file append_to out.old e)))
-        E.known E.grows (seen_by E.failures E.room E.memory err.old) (seen_by E.failures E.room E.memory err.new) }
-    ensures silent { result ≡ 0 → err.new ≡ err.old }
-    ensures done { result ≡ 0 →
-        NoneFailed R.failures O.failures input.old out.old input.new out.new }
-    ensures spared { IfSome (option_and_then place_for (asked (map string_bytes words.now)))
-        (λ place. IsMissing place.1 file append_to →
-        (input.new ≡ input.old) × (out.new ≡ out.old)) }
+    ensures exact { result ≡ 0 → RunsConvert R.gives R.device F.device A.device O.device
+        (asked (map string_bytes words.now)) input.old input.new file append_to
+        out.old out.new err.old err.new }
+    ensures causes { ConvertCause R.gives R.device F.device A.device O.device E.device
+        (asked (map string_bytes words.now)) input.old file append_to out.old result
+        err.old err.new USAGE.now }
     ensures unopened_told { IfSome (option_and_then place_for (asked (map string_bytes words.now)))
-        (λ place. IsMissing place.1 file append_to → Told E.known E.grows
-        (seen_by E.failures E.room E.memory err.old) (seen_by E.failures E.room E.memory err.new) (codes "ipconvert: input or output failed\n")) }
-    ensures taken { result ≡ 0 → IfSome (asked (map string_bytes words.now))
-        (λ form. reads_input form ≡ true → TakesStream R.gives input.old input.new) }
-    ensures copied { result ≡ 0 → IsTrue O.known → IfSome (asked (map string_bytes words.now))
-        (λ form. CopiesAsAsked R.gives F.known F.memory form input.old input.new file (O.memory out.old) (O.memory out.new)) }
-    ensures appended { result ≡ 0 → IfSome (asked (map string_bytes words.now))
-        (λ form. Appended R.gives A.known A.memory A.failures form input.old input.new append_to) }
-    ensures told { asked (map string_bytes words.now) ≡ None → Told E.known E.grows
-        (seen_by E.failures E.room E.memory err.old) (seen_by E.failures E.room E.memory err.new) USAGE.now }
-    ensures untouched { asked (map string_bytes words.now) ≡ None → (input.new ≡ input.old) × (out.new ≡ out.old) }
+        (λ place. IsMissing place.1 file append_to → Told E.device err.old err.new
+        (codes "ipconvert: input or output failed\n")) }
+    ensures state { ConvertState (asked (map string_bytes words.now)) file append_to
+        input.old input.new out.old out.new }
 {
     let Some(form) = form_of(words) else {
         let _ = write_all(err, USAGE.as_bytes());
@@ -138,14 +123,15 @@ fn run_form<R: Reads, F: Reads + Seeks + Drop, A: Reads + Writes + Seeks + Drop,
     ensures unread { reads_input (wanted_by form.entry) ≡ false → input.new ≡ input.old }
     ensures unwritten { writes_output (wanted_by form.entry) ≡ false → out.new ≡ out.old }
     ensures taken { reads_input (wanted_by form.entry) ≡ true → OnOk result (TakesStream R.gives input.old input.new) }
-    ensures copied { IsTrue O.known → OnOk result
-        (CopiesAsAsked R.gives F.known F.memory (wanted_by form.entry) input.old input.new file (O.memory out.old) (O.memory out.new)) }
-    ensures appended { OnOk result (Appended R.gives A.known A.memory A.failures
+    ensures copied { IsTrue O.device.is_memory → OnOk result
+        (CopiesAsAsked R.gives F.device (wanted_by form.entry) input.old
+        input.new file (O.device.memory out.old) (O.device.memory out.new)) }
+    ensures appended { OnOk result (Appended R.gives A.device
         (wanted_by form.entry) input.old input.new append_to) }
     ensures done { OnOk result
-        (NoneFailed R.failures O.failures input.old out.old input.new out.new) }
+        (NoneFailed R.device.failures O.device.failures input.old out.old input.new out.new) }
     ensures refused { IfErr result (λ e. OwnFault e
-        (RefusesAsAsked R.gives R.known R.memory F.known F.memory A.known A.memory O.known O.memory
+        (AskedCause R.gives R.device F.device A.device O.device
         (wanted_by form.entry) input.old file append_to out.old e)) }
 {
     match form {
@@ -189,9 +175,10 @@ fn flushed<O: Writes>(
     failures_before: u64,
 ) -> Result<(), Fault>
     ensures same { IfOk result (λ done. copied ≡ Ok done) }
-    ensures both { OnOk result (O.failures out.new ≡ O.failures out.old) }
-    ensures done { OnOk result (O.failures out.new ≡ failures_before) }
-    ensures memory { IsTrue O.known → O.memory out.new ≡ O.memory out.old }
+    ensures both { OnOk result (O.device.failures out.new ≡ O.device.failures out.old) }
+    ensures done { OnOk result (O.device.failures out.new ≡ failures_before) }
+    ensures memory { IsTrue O.device.is_memory
+        → O.device.memory out.new ≡ O.device.memory out.old }
     ensures fault { IfErr result (λ e. (copied ≡ Err e) ⊎ IsIo e) }
 {
     let sent = out.flush();

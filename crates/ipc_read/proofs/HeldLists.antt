@@ -12,7 +12,7 @@ use Rattle.lower_arrays.specs.AnyLayouts.{layout_of}
 use Rattle.lower_arrays.specs.Held.{held}
 use Rattle.lower_arrays.specs.declared.array.AnyArray.{AnyArray}
 use Rattle.ipc_base.specs.IdTrees.{IdTrees}
-use Rattle.ipc_devices.specs.Device.{Memory}
+use Rattle.ipc_devices.specs.Device.{Device}
 use Rattle.ipc_devices.specs.declared.fault.Fault.{Fault}
 use Rattle.ipc_table_views.specs.Spot.{Spot}
 use Rattle.ipc_table_views.specs.declared.schema.Buffer.{Buffer}
@@ -48,11 +48,11 @@ same_lengths f g same extra ts js = λ i. columns_empty (λ c. same c i) extra t
 
 -- n bytes are no more than the lists of the batch say
 pub held_total :
-    {R : Type 0} (memory : R → Memory) (b : Read R) (lists : Lists) (m : Body) (order : Endianness) (extra : ℕ) (known : Dictionaries) (o : Option Lists) (ts : Kinds) (js : List ℕ) (n : ℕ)
-    → entries memory b ≡ entries_of lists m order extra known → b.extra ≡ extra → o ≡ Some lists
-    → n ≤ columns_most (entries memory b) b.extra ts js
+    {R : Type 0} (d : Device R) (b : Read R) (lists : Lists) (m : Body) (order : Endianness) (extra : ℕ) (known : Dictionaries) (o : Option Lists) (ts : Kinds) (js : List ℕ) (n : ℕ)
+    → entries d b ≡ entries_of lists m order extra known → b.extra ≡ extra → o ≡ Some lists
+    → n ≤ columns_most (entries d b) b.extra ts js
     → n ≤ chosen_listed o extra ts js + chosen_empty o extra ts js
-held_total memory b lists m order extra known o ts js n same fronted listed_so h =
+held_total d b lists m order extra known o ts js n same fronted listed_so h =
     let s = entries_of lists m order extra known in
     let total = columns_total m.source m.base lists.buffers s (parts_are lists m order extra known) extra ts js in
     let e1 = ap (λ (r : Entries). columns_most r b.extra ts js) same in
@@ -71,14 +71,14 @@ chunk_holds most o extra ts js ys (Err e) told h = tt
 -- ---- the values of a dictionary
 
 pub column_held :
-    {R : Type 0} (memory : R → Memory) (b : Read R) (lists : Lists) (m : Body) (order : Endianness) (extra : ℕ) (known : Dictionaries) (o : Option Lists) (u : TypeTree) (is : IdTrees) (x : AnyArray)
-    → entries memory b ≡ entries_of lists m order extra known → b.extra ≡ extra → o ≡ Some lists → total_of lists.buffers ≤ m.size
-    → HoldsListed (entries memory b) b.extra (kind_of u None is) 0 (layout_of x) → HoldChosen m.size o extra (kinds (schema_of u is order)) (0 ∷ []) (x ∷ [])
-column_held memory b lists m order extra known o u is x same fronted listed_so fits h =
+    {R : Type 0} (d : Device R) (b : Read R) (lists : Lists) (m : Body) (order : Endianness) (extra : ℕ) (known : Dictionaries) (o : Option Lists) (u : TypeTree) (is : IdTrees) (x : AnyArray)
+    → entries d b ≡ entries_of lists m order extra known → b.extra ≡ extra → o ≡ Some lists → total_of lists.buffers ≤ m.size
+    → HoldsListed (entries d b) b.extra (kind_of u None is) 0 (layout_of x) → HoldChosen m.size o extra (kinds (schema_of u is order)) (0 ∷ []) (x ∷ [])
+column_held d b lists m order extra known o u is x same fronted listed_so fits h =
     let one = sum_by-cons (λ (y : AnyArray). held (layout_of y)) x [] in
     let ts = kinds (schema_of u is order) in
     hold_within m.size o lists extra ts (0 ∷ []) (x ∷ []) listed_so (chosen_within lists.buffers extra ts (Some (0 ∷ [])) 1 refl ((omega arith, tt), (omega arith, tt))) fits
-    (held_total memory b lists m order extra known o ts (0 ∷ []) (arrays_held (x ∷ [])) same fronted listed_so (omega (arith, h, one)))
+    (held_total d b lists m order extra known o ts (0 ∷ []) (arrays_held (x ∷ [])) same fronted listed_so (omega (arith, h, one)))
 
 pub values_held :
     {Z S : Type 0} (m n : HashMap ℤ (Rc AnyArray Z) S) (id : ℤ) (x : Rc AnyArray Z) → Updates int_eq m n id (Some x) → (most : ℕ) (schema : Schema) (extra : ℕ) (t values : Spot) (p : Place)

@@ -1,4 +1,5 @@
 -- The encoded lengths of a column's buffers are those that the batch has for them.
+use Rattle.ipc_devices.specs.Device.{Device}
 use Rattle.std.proofs.Common.{arith, ◌≡◌, ℕ, zero, suc, pos, ◌+◌, ◌<◌, ◌≤◌, List, [], ◌∷◌, map, length, take, drop, get_or, Option, Some, refl, ap, ◌∙◌, inl, inr}
 use Rattle.std.proofs.lemmas.Bool.{cases_lt}
 use Rattle.std.proofs.lemmas.List.{drop_more, drop_all, get_or-map, get_or_past, length-map}
@@ -15,7 +16,6 @@ use Rattle.ipc_read_flat.specs.Kinds.{listed_in, all_listed}
 use Rattle.ipc_read.specs.Columns.{columns_listed}
 use Rattle.ipc_read_flat.specs.Bodies.{entries}
 use Rattle.ipc_read_flat.specs.declared.read.body.Body.{Body as Read}
-use Rattle.ipc_devices.specs.Device.{Memory}
 use Rattle.ipc_read.specs.Sizes.{total_of, chosen_total, chosen_listed}
 
 -- ---- from one buffer on
@@ -105,10 +105,10 @@ parts_are lists b order extra known = refl
 
 -- How many bytes were read at most, by the lists of the batch.
 pub given_total :
-    {R : Type 0} (memory : R → Memory) (b : Read R) (lists : Lists) (m : Body) (order : Endianness) (extra : ℕ) (known : Dictionaries) (o : Option Lists) (ts : Kinds) (js : List ℕ) (x y : ℕ)
-    → entries memory b ≡ entries_of lists m order extra known → b.extra ≡ extra → o ≡ Some lists → y ≤ x + columns_listed (entries memory b) b.extra ts js
+    {R : Type 0} (d : Device R) (b : Read R) (lists : Lists) (m : Body) (order : Endianness) (extra : ℕ) (known : Dictionaries) (o : Option Lists) (ts : Kinds) (js : List ℕ) (x y : ℕ)
+    → entries d b ≡ entries_of lists m order extra known → b.extra ≡ extra → o ≡ Some lists → y ≤ x + columns_listed (entries d b) b.extra ts js
     → y ≤ x + chosen_listed o extra ts js
-given_total memory b lists m order extra known o ts js x y same fronted listed h =
+given_total d b lists m order extra known o ts js x y same fronted listed h =
     let s = entries_of lists m order extra known in
     let total = columns_total m.source m.base lists.buffers s (parts_are lists m order extra known) extra ts js in
     let e1 = ap (λ (r : Entries). columns_listed r b.extra ts js) same in

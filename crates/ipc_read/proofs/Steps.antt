@@ -1,8 +1,8 @@
 -- Steps of a device that end in an error.
-use Rattle.std.proofs.Common.{arith, ◌≡◌, ℕ, ◌+◌, ◌≤◌, Bool, Result, Ok, Err, sym, subst, ◌∙◌}
+use Rattle.std.proofs.Common.{arith, ◌≡◌, ℕ, ◌+◌, ◌≤◌, Result, Ok, Err, sym, subst, ◌∙◌}
 use Rattle.std.proofs.lemmas.Bool.{false≢true}
 use Rattle.std.specs.Result.{IsErr, IsErrAnd}
-use Rattle.ipc_devices.specs.Device.{Memory, Rises}
+use Rattle.ipc_devices.specs.Device.{Device, Memory, Rises}
 use Rattle.ipc_devices.specs.Faults.{OnIo, UnlessIo}
 use Rattle.ipc_devices.specs.declared.fault.Fault.{Fault}
 use Rattle.ipc_devices.specs.declared.fault.Fault.TheVariants as Faults
@@ -47,13 +47,14 @@ rises_from a b c le h = omega (arith, le, h)
 
 -- A part of a step that ended in an error ends it.
 pub step_err :
-    {R X Y : Type 0} (still : Bool) (memory : R → Memory) (failures given : R → ℕ) (s : Body R) (n m : ℕ) (a0 a b : R) (e : Fault) (r : Result Y Fault)
-    → IsErr r × IsErrAnd r (λ f. f ≡ e) → failures a0 ≤ failures a → failures a ≡ failures a0 → given a + n ≤ given a0 + m
-    → Step {R = R} {X = X} still memory failures given s n a (Err e) b → Step {R = R} {X = Y} still memory failures given s m a0 r b
-step_err {R} {X} {Y} still memory failures given s n m a0 a b e r is le same lt st = record {
+    {R X Y : Type 0} (d : Device R) (s : Body R) (n m : ℕ) (a0 a b : R) (e : Fault) (r : Result Y Fault)
+    → IsErr r × IsErrAnd r (λ f. f ≡ e) → d.failures a0 ≤ d.failures a → d.failures a ≡ d.failures a0 → d.names a ≡ d.names a0 → d.given a + n ≤ d.given a0 + m
+    → Step {R = R} {X = X} d s n a (Err e) b → Step {R = R} {X = Y} d s m a0 r b
+step_err {R} {X} {Y} d s n m a0 a b e r is le same names lt st = record {
   stands = st.stands;
   monotone = omega (arith, le, st.monotone);
-  failed = io_through X Y r e (Rises (failures a) (failures b)) (Rises (failures a0) (failures b)) is (λ h. rises_from (failures a0) (failures a) (failures b) le h) st.failed;
-  told = unless_io_through X Y r e (failures b ≡ failures a) (failures b ≡ failures a0) is (λ h. h ∙ same) st.told;
+  failed = io_through X Y r e (Rises (d.failures a) (d.failures b)) (Rises (d.failures a0) (d.failures b)) is (λ h. rises_from (d.failures a0) (d.failures a) (d.failures b) le h) st.failed;
+  told = unless_io_through X Y r e (d.failures b ≡ d.failures a) (d.failures b ≡ d.failures a0) is (λ h. h ∙ same) st.told;
   bounded = omega (arith, st.bounded, lt);
+  names = st.names ∙ names;
 }

@@ -8,6 +8,7 @@ use Rattle.lower_arrays.specs.Layouts.{Layout}
 use Rattle.lower_arrays.specs.declared.array.AnyArray.{AnyArray}
 use Rattle.ipc_devices.proofs.Claims.{claims_through, denies_through}
 use Rattle.ipc_base.specs.IdTrees.{IdTrees}
+use Rattle.ipc_devices.specs.Device.{Device}
 use Rattle.ipc_devices.specs.Faults.{OwnFault}
 use Rattle.ipc_devices.specs.declared.fault.Fault.{Fault}
 use Rattle.ipc_table_views.specs.Spot.{Spot}
@@ -21,7 +22,6 @@ use Rattle.ipc_read_flat.specs.Kinds.{listed_in}
 use Rattle.ipc_read_nested.specs.ReadColumns.{IsColumn}
 use Rattle.ipc_read_flat.specs.Refusals.{IsFaultOf}
 use Rattle.ipc_read_flat.specs.declared.read.body.Body.{Body as Read}
-use Rattle.ipc_devices.specs.Device.{Memory}
 use Rattle.ipc_read.proofs.Listed.{given_total}
 use Rattle.ipc_read.proofs.Meanings.{IsListed, any_rows, some_is, equal_rows, fetched_meaning, judged}
 use Rattle.ipc_read.proofs.ReadCases.{read_cases}
@@ -79,8 +79,8 @@ module _ (extra : ℕ) (known : Dictionaries) (b : Body) (t : Spot) (u : TypeTre
 -- ---- what a device gives
 
 pub values_given :
-    {R : Type 0} (memory : R → Memory) (b : Read R) (lists : Lists) (m : Body) (order : Endianness) (extra : ℕ) (known : Dictionaries) (o : Option Lists) (u : TypeTree) (is : IdTrees) (x y : ℕ)
-    → entries memory b ≡ entries_of lists m order extra known → b.extra ≡ extra → o ≡ Some lists → y ≤ x + listed_in (entries memory b) b.extra (kind_of u None is) 0
+    {R : Type 0} (d : Device R) (b : Read R) (lists : Lists) (m : Body) (order : Endianness) (extra : ℕ) (known : Dictionaries) (o : Option Lists) (u : TypeTree) (is : IdTrees) (x y : ℕ)
+    → entries d b ≡ entries_of lists m order extra known → b.extra ≡ extra → o ≡ Some lists → y ≤ x + listed_in (entries d b) b.extra (kind_of u None is) 0
     → y ≤ x + chosen_listed o extra (kinds (schema_of u is order)) (0 ∷ [])
-values_given memory b lists m order extra known o u is x y same fronted listed h =
-    given_total memory b lists m order extra known o (kinds (schema_of u is order)) (0 ∷ []) x y same fronted listed (omega (arith, h))
+values_given d b lists m order extra known o u is x y same fronted listed h =
+    given_total d b lists m order extra known o (kinds (schema_of u is order)) (0 ∷ []) x y same fronted listed (omega (arith, h))

@@ -54,6 +54,7 @@ pub record HoldChosen (most : ℕ) (lists : Option Lists) (extra : ℕ) (ts : Ki
 -- ---- the values of a dictionary
 
 -- The single offsets of a dictionary field's values.
+
 abbrev pub place_empty : ℕ → Endianness → Spot → Option Place → ℕ
 place_empty extra order values None = 0
 place_empty extra order values (Some p) = chosen_empty (lists_of values) extra (kinds (values_schema p order)) (0 ∷ [])

@@ -5,3 +5,4 @@ pub mod DictionaryBatches
 pub mod Refusals
 pub mod HeldChunks
 pub mod Headers
+pub mod Api

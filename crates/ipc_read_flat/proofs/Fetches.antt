@@ -3,7 +3,7 @@ use Rattle.std.proofs.Common.{◌≡◌, ℕ, ◌+◌, ◌<◌, ◌≤◌, ℤ, 
 use Rattle.std.proofs.lemmas.List.{take-take, length-take, get_or-map}
 use Rattle.std.specs.Result.{IsErr, IsErrAnd}
 use Rattle.ipc_devices.proofs.Claims.{denies_through}
-use Rattle.ipc_devices.specs.Device.{Memory}
+use Rattle.ipc_devices.specs.Device.{Device}
 use Rattle.ipc_devices.specs.Faults.{OwnFault, Answers}
 use Rattle.ipc_devices.specs.declared.fault.Fault.{Fault}
 use Rattle.ipc_table_views.specs.declared.schema.Buffer.{Buffer}
@@ -39,26 +39,26 @@ abbrev pub entry : List Buffer → ℕ → Buffer
 entry xs i = get_or xs i (record { offset = pos 0; length = pos 0 })
 
 pub part_is :
-    {R : Type 0} (memory : R → Memory) (b : Body R) (i : ℕ) → i < length b.buffers
-    → buffer (entries memory b) i ≡ part_at (source memory b) b.base (entry b.buffers i)
+    {R : Type 0} (d : Device R) (b : Body R) (i : ℕ) → i < length b.buffers
+    → buffer (entries d b) i ≡ part_at (source d b) b.base (entry b.buffers i)
 unfolding entries
-part_is memory b i h =
-    get_or-map (part_at (source memory b) b.base) b.buffers i (record { offset = pos 0; length = pos 0 })
+part_is d b i h =
+    get_or-map (part_at (source d b) b.base) b.buffers i (record { offset = pos 0; length = pos 0 })
     (record { offset = pos 0; length = pos 0; bytes = [] }) h
 
 pub fetched :
-    {R X : Type 0} (q : List ℕ → X → Type 0) (memory : R → Memory) (b : Body R) (i len place : ℕ) (w : List ℕ) (r : Result X Fault)
+    {R X : Type 0} (q : List ℕ → X → Type 0) (d : Device R) (b : Body R) (i len place : ℕ) (w : List ℕ) (r : Result X Fault)
     → i < length b.buffers → IsSize (entry b.buffers i).offset → place ≡ b.base + size (entry b.buffers i).offset
-    → len ≤ size (entry b.buffers i).length → 0 < len → w ≡ source memory b
+    → len ≤ size (entry b.buffers i).length → 0 < len → w ≡ source d b
     → Answers r (len ≤ length (drop place w)) (q (take len (drop place w)))
-    → Answers r (Need (entries memory b) i len) (q (take len (bytes (entries memory b) i)))
-fetched q memory b i len place w r h z at long some same a =
+    → Answers r (Need (entries d b) i len) (q (take len (bytes (entries d b) i)))
+fetched q d b i len place w r h z at long some same a =
     let e = entry b.buffers i in
-    let a' : Answers r (len ≤ length (drop (b.base + size e.offset) (source memory b))) (q (take len (drop (b.base + size e.offset) (source memory b)))) =
+    let a' : Answers r (len ≤ length (drop (b.base + size e.offset) (source d b))) (q (take len (drop (b.base + size e.offset) (source d b)))) =
     rw (← at, ← same) a
     in
     subst (λ (u : Part). Answers r (IsSize u.offset × (len ≤ size u.length) × (len ≤ length u.bytes)) (q (take len u.bytes)))
-    (sym (part_is memory b i h)) (entry_fetched q b.base len (source memory b) e.offset e.length r z long some a')
+    (sym (part_is d b i h)) (entry_fetched q b.base len (source d b) e.offset e.length r z long some a')
 
 -- An error that a `?` converted to another one.
 pub refused :

@@ -1,4 +1,5 @@
 -- A column without children is read to the array that its entries say.
+use Rattle.ipc_devices.specs.Device.{Device}
 use Rattle.std.proofs.Common.{arith, ◌≡◌, refl, ℕ, zero, suc, ◌+◌, ◌*◌, ◌/◌, ◌<◌, ◌≤◌, List, ◌∷◌, map, length, take, drop, sym, ap, subst, ◌∙◌}
 use Rattle.std.proofs.lemmas.List.{take-take, drop-take, drop-drop, length-map, length-take-le}
 use Rattle.std.proofs.lemmas.List.FromFn.{length-map-range_with_len}
@@ -21,16 +22,15 @@ use Rattle.lower_flat_arrays.specs.FixedBinaries.{byte_size, fixed_seen, BreaksF
 use Rattle.lower_arrays.specs.Layouts.{numbers, fixed_bytes, layout, no_layouts}
 use Rattle.lower_arrays.specs.Primitives.{primitive_layout}
 use Rattle.lower_arrays.specs.Flat.{fixed_layout}
-use Rattle.ipc_devices.specs.Device.{Memory}
 use Rattle.ipc_model.specs.Kinds.{number_kind, fixed_binary_kind}
 use Rattle.ipc_model.specs.Entries.{Entries, bytes, Limit, rows}
 use Rattle.ipc_model.specs.ReadArrays.{validity_of, array_at}
 use Rattle.ipc_read_flat.specs.Bodies.{entries, no_values}
 use Rattle.ipc_read_flat.specs.declared.read.body.Body.{Body}
 
-pub order_is : {R : Type 0} (memory : R → Memory) (b : Body R) → b.order ≡ (entries memory b).order
+pub order_is : {R : Type 0} (d : Device R) (b : Body R) → b.order ≡ (entries d b).order
 unfolding entries
-order_is memory b = refl
+order_is d b = refl
 
 -- ---- what pieces of bytes are read as
 

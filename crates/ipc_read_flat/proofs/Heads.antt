@@ -1,4 +1,5 @@
 -- The first part of a column: its length and its validity.
+use Rattle.ipc_devices.specs.Device.{Device}
 use Rattle.std.proofs.Common.{arith, ◌≡◌, refl, ℕ, pos, ◌<◌, ◌≤◌, ◌==◌, List, map, length, take, drop, Bool, true, false, None, Some, sym, ap, ◌∙◌}
 use Rattle.std.proofs.lemmas.List.{take-append-drop, length-take-le}
 use Rattle.std.proofs.lemmas.List.FromFn.{length-map-range_with_len}
@@ -8,7 +9,6 @@ use Rattle.std.specs.List.{range_with_len}
 use Rattle.std.specs.Prelude.{slice_get}
 use Rattle.lower.specs.Bits.{has_bit}
 use Rattle.ipc_table_views.specs.declared.message.FieldNode.{FieldNode}
-use Rattle.ipc_devices.specs.Device.{Memory}
 use Rattle.ipc_model.proofs.Extended.{range_same}
 use Rattle.ipc_model.proofs.Prefixes.{bit-append}
 use Rattle.ipc_model.specs.Entries.{Entries, IsSize, size, node, bytes_for, bit, Need}
@@ -18,10 +18,10 @@ use Rattle.ipc_read_flat.specs.Bodies.{entries}
 use Rattle.ipc_read_flat.specs.declared.read.body.Body.{Body}
 
 pub node_is :
-    {R : Type 0} (memory : R → Memory) (b : Body R) (a : ℕ) (x : FieldNode) → slice_get b.nodes a ≡ Some x
-    → node (entries memory b) a ≡ x
+    {R : Type 0} (d : Device R) (b : Body R) (a : ℕ) (x : FieldNode) → slice_get b.nodes a ≡ Some x
+    → node (entries d b) a ≡ x
 unfolding entries
-node_is memory b a x e = get_or_from_slice_get b.nodes a x (record { length = pos 0; null_count = pos 0 }) e
+node_is d b a x e = get_or_from_slice_get b.nodes a x (record { length = pos 0; null_count = pos 0 }) e
 
 pub ruleset nodes = (node_is)
 

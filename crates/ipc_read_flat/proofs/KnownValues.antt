@@ -1,4 +1,5 @@
 -- The values that are known under an id, as an array and as the definitions have them.
+use Rattle.ipc_devices.specs.Device.{Device}
 use Rattle.std.specs.Prelude.{◌≡◌, ℕ, zero, suc, ◌+◌, ℤ, Bool, true, false, cond, List, [], ◌∷◌, map, length, Option, None, Some, IsSome}
 use Rattle.std.proofs.Common.{refl, sym, ap, subst, ◌∙◌}
 use Rattle.std.proofs.lemmas.Cmp.{int_eq_equiv}
@@ -14,7 +15,6 @@ use Rattle.lower_arrays.specs.AnyLayouts.{layout_of}
 use Rattle.lower_arrays.specs.Layouts.{type_of, len_of}
 use Rattle.lower_arrays.specs.Slots.{Slot, slot_at, slots, slots_from}
 use Rattle.lower_arrays.specs.declared.array.AnyArray.{AnyArray}
-use Rattle.ipc_devices.specs.Device.{Memory}
 use Rattle.ipc_model.specs.Columns.{values_type, slots_in, values_slots}
 use Rattle.ipc_model.specs.Entries.{Dictionary, dictionary_at}
 use Rattle.ipc_model.specs.ReadArrays.{AreValues}
@@ -48,8 +48,8 @@ length-slots_from : (f : ℕ → Slot) (a n : ℕ) → length (slots_from f a n)
 length-slots_from f a zero = refl
 length-slots_from f a (suc n) = ap suc (length-slots_from f (a + 1) n)
 
-module _ {R : Type 0} (memory : R → Memory) (b : Body R) where
-  known_is : (id : ℤ) → dictionary_at (entries memory b).dictionaries id ≡ dictionary_found (get int_eq b.dictionaries.now id)
+module _ {R : Type 0} (d : Device R) (b : Body R) where
+  known_is : (id : ℤ) → dictionary_at (entries d b).dictionaries id ≡ dictionary_found (get int_eq b.dictionaries.now id)
   unfolding entries
   known_is id = found_under b.dictionaries.now id
 
@@ -57,37 +57,37 @@ module _ {R : Type 0} (memory : R → Memory) (b : Body R) where
   found_slots None = refl
   found_slots (Some x) = refl
 
-  slots_known : (id : Option ℤ) → slots (known b id) ≡ values_slots (entries memory b) id
+  slots_known : (id : Option ℤ) → slots (known b id) ≡ values_slots (entries d b) id
   slots_known None = refl
   slots_known (Some id) = found_slots (get int_eq b.dictionaries.now id) ∙ ap slots_in (sym (known_is id))
 
-  pub values_are : AreValues (entries memory b) (known b)
+  pub values_are : AreValues (entries d b) (known b)
   values_are = record { each = slots_known }
 
   -- no array was found
-  pub none_typed : (id : ℤ) → get int_eq b.dictionaries.now id ≡ None → values_type (entries memory b) (Some id) ≡ None
-  none_typed id none = ap (option_map (λ (d : Dictionary). d.type)) (known_is id ∙ ap dictionary_found none)
+  pub none_typed : (id : ℤ) → get int_eq b.dictionaries.now id ≡ None → values_type (entries d b) (Some id) ≡ None
+  none_typed id none = ap (option_map (λ (x : Dictionary). x.type)) (known_is id ∙ ap dictionary_found none)
 
-  pub none_known : (id : ℤ) (t : TypeTree) → get int_eq b.dictionaries.now id ≡ None → values_type (entries memory b) (Some id) ≡ Some t → ⊥
+  pub none_known : (id : ℤ) (t : TypeTree) → get int_eq b.dictionaries.now id ≡ None → values_type (entries d b) (Some id) ≡ Some t → ⊥
   none_known id t none h =
       let no : None ≡ Some t = sym (none_typed id none) ∙ h in
       absurd cc
 
   -- the array that was found has the type of the definitions, and is the one that is known
-  pub type_known : (id : ℤ) (x : Rc AnyArray Global) → get int_eq b.dictionaries.now id ≡ Some x → values_type (entries memory b) (Some id) ≡ Some (norm (type_of (layout_of x.value)))
-  type_known id x there = ap (option_map (λ (d : Dictionary). d.type)) (known_is id ∙ ap dictionary_found there)
+  pub type_known : (id : ℤ) (x : Rc AnyArray Global) → get int_eq b.dictionaries.now id ≡ Some x → values_type (entries d b) (Some id) ≡ Some (norm (type_of (layout_of x.value)))
+  type_known id x there = ap (option_map (λ (y : Dictionary). y.type)) (known_is id ∙ ap dictionary_found there)
 
   -- The array that is known is no other.
   pub other_typed :
       (id : ℤ) (x : Rc AnyArray Global) (t : TypeTree) → get int_eq b.dictionaries.now id ≡ Some x → (norm (type_of (layout_of x.value)) ≡ t → ⊥)
-      → IsSome (values_type (entries memory b) (Some id)) × (values_type (entries memory b) (Some id) ≡ Some t → ⊥)
+      → IsSome (values_type (entries d b) (Some id)) × (values_type (entries d b) (Some id) ≡ Some t → ⊥)
   other_typed id x t there other = (subst IsSome (sym (type_known id x there)) refl, λ e. other (ap (λ (o : Option TypeTree). unwrap_or o t) (sym (type_known id x there) ∙ e)))
 
   pub array_known : (id : ℤ) (x : Rc AnyArray Global) → get int_eq b.dictionaries.now id ≡ Some x → layout_of x.value ≡ known b (Some id)
   array_known id x there = sym (ap array_found there)
 
   -- The array has as many slots.
-  pub values_count : (id : Option ℤ) → len_of (known b id) ≡ length (values_slots (entries memory b) id)
+  pub values_count : (id : Option ℤ) → len_of (known b id) ≡ length (values_slots (entries d b) id)
   values_count id = sym (length-slots_from (slot_at (known b id)) 0 (len_of (known b id))) ∙ ap length (slots_known id)
 
 pub ruleset known_values = (none_typed, other_typed, none_known, type_known, array_known)

@@ -6,7 +6,7 @@ use Rattle.std.proofs.lemmas.Option.{get_or_from_slice_get}
 use Rattle.std.specs.Prelude.{slice_get}
 use Rattle.lower.specs.TypeTrees.{TypeTree}
 use Rattle.ipc_devices.proofs.Claims.{claims_through}
-use Rattle.ipc_devices.specs.Device as device
+use Rattle.ipc_devices.specs.Device.{Device}
 use Rattle.ipc_devices.specs.Faults.{OwnFault, Answers}
 use Rattle.ipc_devices.specs.declared.fault.Fault.{Fault}
 use Rattle.ipc_devices.specs.declared.fault.Fault.TheVariants.{Ended, OutOfSpec, NotYetImplemented, Schema, Argument, State, TooManyDictionaries, Io, Memory, Lower}
@@ -119,41 +119,41 @@ fewer_bits n count less = omega (arith, less, div_ceil_times count 8 (omega arit
 
 -- ---- of a buffer that was looked up
 
-module _ {R : Type 0} (known : Bool) (memory : R → device.Memory) (b : Body R) (i : ℕ) (x : Buffer) (inside : i < length b.buffers) (got : slice_get b.buffers i ≡ Some x) where
-  there : i < length (entries memory b).parts
+module _ {R : Type 0} (d : Device R) (b : Body R) (i : ℕ) (x : Buffer) (inside : i < length b.buffers) (got : slice_get b.buffers i ≡ Some x) where
+  there : i < length (entries d b).parts
   unfolding entries
-  there = let e = length-map b.buffers (part_at (source memory b) b.base) in omega (arith, e, inside)
+  there = let e = length-map b.buffers (part_at (source d b) b.base) in omega (arith, e, inside)
 
-  found : buffer (entries memory b) i ≡ part_at (source memory b) b.base x
-  found = part_is memory b i inside ∙ ap (part_at (source memory b) b.base) (get_or_from_slice_get b.buffers i x _ got)
+  found : buffer (entries d b) i ≡ part_at (source d b) b.base x
+  found = part_is d b i inside ∙ ap (part_at (source d b) b.base) (get_or_from_slice_get b.buffers i x _ got)
 
-  pub listed_found : listed (entries memory b) i ≡ size x.length
+  pub listed_found : listed (entries d b) i ≡ size x.length
   listed_found = ap (λ (p : Part). size p.length) found
 
-  pub offset_fetched : (e : Fault) → e ≡ OutOfSpec NegativeFooterLength → OwnFault e (IsSize x.offset → ⊥) → OwnFault e (TellsEntries known (entries memory b) e)
+  pub offset_fetched : (e : Fault) → e ≡ OutOfSpec NegativeFooterLength → OwnFault e (IsSize x.offset → ⊥) → OwnFault e (TellsEntries d.is_memory (entries d b) e)
   offset_fetched e is h =
-      negative_offset known (entries memory b) i e there is (subst (λ (p : Part). OwnFault e (IsSize p.offset → ⊥)) (sym found) h)
+      negative_offset d.is_memory (entries d b) i e there is (subst (λ (p : Part). OwnFault e (IsSize p.offset → ⊥)) (sym found) h)
 
-  pub short_fetched : (count needed n : ℕ) (e : Fault) → n ≡ size x.length → n < needed → TellsShort count needed n e → OwnFault e (TellsEntries known (entries memory b) e)
+  pub short_fetched : (count needed n : ℕ) (e : Fault) → n ≡ size x.length → n < needed → TellsShort count needed n e → OwnFault e (TellsEntries d.is_memory (entries d b) e)
   short_fetched count needed n e is less h =
-      short_tells known (entries memory b) i count needed n e there (listed_found ∙ sym is) less h
+      short_tells d.is_memory (entries d b) i count needed n e there (listed_found ∙ sym is) less h
 
-  pub bits_fetched : (count n : ℕ) (e : Fault) → n ≡ size x.length * 8 → n < count → e ≡ OutOfSpec (InvalidBitmap count n) → OwnFault e (TellsEntries known (entries memory b) e)
+  pub bits_fetched : (count n : ℕ) (e : Fault) → n ≡ size x.length * 8 → n < count → e ≡ OutOfSpec (InvalidBitmap count n) → OwnFault e (TellsEntries d.is_memory (entries d b) e)
   bits_fetched count n e is less h =
-      subst (λ (f : Fault). OwnFault f (TellsEntries known (entries memory b) f)) (sym h)
+      subst (λ (f : Fault). OwnFault f (TellsEntries d.is_memory (entries d b) f)) (sym h)
       (less, record { index = i; inside = there; is = ap (λ (p : Part). size p.length * 8) found ∙ sym is })
 
-  pub ended_fetched : {X : Type 0} (d : ℕ) (r : Result X Fault) (q : X → Type 0) → IsSize x.offset → d ≤ size x.length → IfErr r (λ e. OwnFault e (e ≡ Ended))
-      → (IsTrue known → Answers r (Need (entries memory b) i d) q) → IfErr r (λ e. OwnFault e (TellsEntries known (entries memory b) e))
-  ended_fetched d r q natural long is h =
-      ended_tells known (entries memory b) i d r q there (subst (λ (p : Part). IsSize p.offset) (sym found) natural)
+  pub ended_fetched : {X : Type 0} (y : ℕ) (r : Result X Fault) (q : X → Type 0) → IsSize x.offset → y ≤ size x.length → IfErr r (λ e. OwnFault e (e ≡ Ended))
+      → (IsTrue d.is_memory → Answers r (Need (entries d b) i y) q) → IfErr r (λ e. OwnFault e (TellsEntries d.is_memory (entries d b) e))
+  ended_fetched y r q natural long is h =
+      ended_tells d.is_memory (entries d b) i y r q there (subst (λ (p : Part). IsSize p.offset) (sym found) natural)
       (omega (arith, long, listed_found)) is h
 
 -- of a node that was looked up
-pub node_fetched : {R : Type 0} (known : Bool) (memory : R → device.Memory) (b : Body R) (a : ℕ) (x : FieldNode) → a < length b.nodes → node (entries memory b) a ≡ x → (e : Fault)
-    → e ≡ OutOfSpec NegativeFooterLength → OwnFault e (IsSize x.length → ⊥) → OwnFault e (TellsEntries known (entries memory b) e)
+pub node_fetched : {R : Type 0} (d : Device R) (b : Body R) (a : ℕ) (x : FieldNode) → a < length b.nodes → node (entries d b) a ≡ x → (e : Fault)
+    → e ≡ OutOfSpec NegativeFooterLength → OwnFault e (IsSize x.length → ⊥) → OwnFault e (TellsEntries d.is_memory (entries d b) e)
 unfolding entries
-node_fetched known memory b a x inside found e is h =
-    negative_length known (entries memory b) a e inside is (subst (λ (y : FieldNode). OwnFault e (IsSize y.length → ⊥)) (sym found) h)
+node_fetched d b a x inside found e is h =
+    negative_length d.is_memory (entries d b) a e inside is (subst (λ (y : FieldNode). OwnFault e (IsSize y.length → ⊥)) (sym found) h)
 
 pub ruleset reasons = (rule_tells, values_tell)

@@ -1,10 +1,10 @@
 -- The entries of a batch, and the bytes of the device that they point to.
 -- (Arrow columnar format, "RecordBatch message".)
-use Rattle.std.specs.Prelude.{◌≡◌, ℕ, ◌+◌, ◌≤◌, Bool, ℤ, List, map, length, Option, None, Some, IsTrue}
+use Rattle.ipc_devices.specs.Device.{Device}
+use Rattle.std.specs.Prelude.{◌≡◌, ℕ, ◌+◌, ◌≤◌, ℤ, List, map, length, Option, None, Some, IsTrue}
 use Rattle.std.specs.HashMap.{HashMap, get}
 use Rattle.std.specs.Ordering.{int_eq}
 use Rattle.std.specs.declared.rc.Rc.{Rc}
-use Rattle.ipc_devices.specs.Device.{Memory}
 use Rattle.lower.specs.Normal.{norm}
 use Rattle.lower.specs.TypeTrees.{null, plain}
 use Rattle.lower_arrays.specs.AnyLayouts.{layout_of}
@@ -17,8 +17,8 @@ use Rattle.ipc_read_flat.specs.declared.read.body.Body.{Body}
 use Rattle.ipc_read_flat.specs.declared.read.body.Place.{Place}
 
 -- The bytes of the device when reading began.
-abbrev pub source : {R : Type 0} → (R → Memory) → Body R → List ℕ
-source memory b = (memory b.device.value).whole
+abbrev pub source : {R : Type 0} → Device R → Body R → List ℕ
+source d b = (d.memory b.device.value).whole
 
 -- An array as the values of a dictionary: its type in the normal form, and its slots.
 abbrev pub dictionary_of : Layout → Dictionary
@@ -33,10 +33,10 @@ abbrev pub known_dictionaries : {Z S : Type 0} → HashMap ℤ (Rc AnyArray Z) S
 known_dictionaries m = map known_entry m.entries
 
 -- What the columns of a batch are read from.
-unfoldable pub entries : {R : Type 0} → (R → Memory) → Body R → Entries
-entries memory b = record {
+unfoldable pub entries : {R : Type 0} → Device R → Body R → Entries
+entries d b = record {
   nodes = b.nodes;
-  parts = map (part_at (source memory b) b.base) b.buffers;
+  parts = map (part_at (source d b) b.base) b.buffers;
   order = b.order;
   extra = b.extra;
   dictionaries = known_dictionaries b.dictionaries.now;
@@ -67,5 +67,5 @@ pub record HasRoom {R : Type 0} (s : Body R) (p : Place) (n m : ℕ) : Type 0 wh
   pub buffers_in : p.buffer + m ≤ length s.buffers
 
 -- A device whose bytes don't change has those that it had when reading began.
-abbrev pub KeepsBytes : {R : Type 0} → Bool → (R → Memory) → R → Body R → Type 0
-KeepsBytes still memory r b = IsTrue still → (memory r).whole ≡ source memory b
+abbrev pub KeepsBytes : {R : Type 0} → Device R → R → Body R → Type 0
+KeepsBytes d r b = IsTrue d.is_read_only → (d.memory r).whole ≡ source d b

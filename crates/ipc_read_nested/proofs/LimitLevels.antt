@@ -1,4 +1,5 @@
 -- Limits by which the same slots are read give the same columns.
+use Rattle.ipc_devices.specs.Device.{Device}
 use Rattle.std.proofs.Common.{arith, ◌≡◌, refl, ℕ, ℤ, ◌+◌, ◌*◌, ◌^◌, ◌<◌, ◌≤◌, min, Option, None, Some, SomeIff, sym, ap, subst, ◌∙◌}
 use Rattle.std.proofs.Math.Nat.{mul_assoc, mul-le-mul_left, min-eq_right}
 use Rattle.lower.specs.TypeTrees.{TypeTree, FieldTrees}
@@ -7,7 +8,6 @@ use Rattle.lower_types.specs.NumberTypes.{width_of}
 use Rattle.lower_types.specs.declared.PrimitiveType.TheVariants.{Int8, Int32}
 use Rattle.lower_validation.specs.Fields.{child_fields}
 use Rattle.lower_arrays.specs.Layouts.{nothing, truths, numbers, fixed_bytes, bytes, texts, lists, fixed_lists, maps, records, choices, keys, Layout, layout, no_layouts, more_layouts}
-use Rattle.ipc_devices.specs.Device.{Memory}
 use Rattle.ipc_model.specs.Kinds.{offsets_32, offset_width, Kind, null_kind, boolean_kind, number_kind, float_kind, fixed_binary_kind, binary_kind, utf8_kind, list_kind, map_kind, fixed_list_kind, struct_kind, union_kind, dictionary_kind, extension_kind, Kinds, no_kinds, more_kinds, count, nodes, buffers}
 use Rattle.ipc_model.specs.Entries.{Entries, Limit, rows, times, bytes_for, Need}
 use Rattle.ipc_model.specs.Columns.{Begins, last_offset, HasBytes, AreTexts, HasTypes, Reaches, HasValues, IsPairKind, IsList, IsWell, AllHaveRows}
@@ -44,22 +44,22 @@ pub same_back : (s : Entries) (l m : Limit) → SameRows s l m → SameRows s m 
 same_back s l m h = record { each = λ n a some. sym (h.each n a some) }
 
 -- a limit past all lengths counts as none
-far_limit : {R : Type 0} (memory : R → Memory) (b : Body R) (m : ℕ) → 2 ^ 64 ≤ m → SameRows (entries memory b) None (Some m)
+far_limit : {R : Type 0} (d : Device R) (b : Body R) (m : ℕ) → 2 ^ 64 ≤ m → SameRows (entries d b) None (Some m)
 unfolding entries
-far_limit memory b m far = record {
+far_limit d b m far = record {
   each = λ n a some.
       let small = b.lengths_fit.each a in
       let most : m * 1 ≤ m * n = mul-le-mul_left m some in
       sym (min-eq_right (omega (arith, far, small, most)));
 }
 
-limit_times : {R : Type 0} (memory : R → Memory) (b : Body R) (m n : ℕ) (r : Option ℕ) → SomeIff r (m * n < 2 ^ 64) (m * n) → SameRows (entries memory b) r (Some (m * n))
-limit_times memory b m n None h = far_limit memory b (m * n) (omega (arith, h))
-limit_times memory b m n (Some k) h = subst (λ (j : ℕ). SameRows (entries memory b) (Some j) (Some (m * n))) (sym h.1) (same_limit (entries memory b) (Some (m * n)))
+limit_times : {R : Type 0} (d : Device R) (b : Body R) (m n : ℕ) (r : Option ℕ) → SomeIff r (m * n < 2 ^ 64) (m * n) → SameRows (entries d b) r (Some (m * n))
+limit_times d b m n None h = far_limit d b (m * n) (omega (arith, h))
+limit_times d b m n (Some k) h = subst (λ (j : ℕ). SameRows (entries d b) (Some j) (Some (m * n))) (sym h.1) (same_limit (entries d b) (Some (m * n)))
 
-pub limit_same : {R : Type 0} (memory : R → Memory) (b : Body R) (l : Limit) (n : ℕ) (r : Option ℕ) → IsTimes l n r → SameRows (entries memory b) r (times l n)
-limit_same memory b None n r h = subst (λ (x : Limit). SameRows (entries memory b) x None) (sym h) (same_limit (entries memory b) None)
-limit_same memory b (Some m) n r h = limit_times memory b m n r h
+pub limit_same : {R : Type 0} (d : Device R) (b : Body R) (l : Limit) (n : ℕ) (r : Option ℕ) → IsTimes l n r → SameRows (entries d b) r (times l n)
+limit_same d b None n r h = subst (λ (x : Limit). SameRows (entries d b) x None) (sym h) (same_limit (entries d b) None)
+limit_same d b (Some m) n r h = limit_times d b m n r h
 
 -- ---- columns
 

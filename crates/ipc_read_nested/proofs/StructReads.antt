@@ -8,7 +8,7 @@ use Rattle.lower_validation.specs.Fields.{field_type}
 use Rattle.lower_arrays.specs.Layouts.{Layout, Layouts, no_layouts, more_layouts, layouts, len_of}
 use Rattle.lower_arrays.specs.Children.{ChildTypes, HasChild, AllHave}
 use Rattle.ipc_base.specs.IdTrees.{IdTrees}
-use Rattle.ipc_devices.specs.Device.{Memory}
+use Rattle.ipc_devices.specs.Device.{Device}
 use Rattle.ipc_model.proofs.ReadSlots.{array_len}
 use Rattle.ipc_model.specs.Kinds.{Kind, Kinds, no_kinds, more_kinds, nodes, all_nodes, buffers, all_buffers}
 use Rattle.ipc_model.specs.TypeKinds.{first_ids, other_ids, field_kind, kinds_of}
@@ -22,9 +22,9 @@ use Rattle.ipc_read_flat.specs.declared.read.body.Body.{Body}
 use Rattle.ipc_read_flat.specs.declared.read.body.Place.{Place}
 use Rattle.ipc_read_nested.proofs.ColumnLevels.{array_type}
 
-pub extra_is : {R : Type 0} (memory : R → Memory) (b : Body R) → b.extra ≡ (entries memory b).extra
+pub extra_is : {R : Type 0} (d : Device R) (b : Body R) → b.extra ≡ (entries d b).extra
 unfolding entries
-extra_is memory b = refl
+extra_is d b = refl
 
 -- ---- what is left
 

@@ -25,7 +25,7 @@ use Rattle.lower_arrays.specs.Children.{ChildTypes, AllHave}
 use Rattle.lower_arrays.specs.Choices.{ChoicesFit}
 use Rattle.lower_arrays.specs.Unions.{union_seen, union_layout}
 use Rattle.ipc_base.specs.IdTrees.{IdTrees}
-use Rattle.ipc_devices.specs.Device.{Memory}
+use Rattle.ipc_devices.specs.Device.{Device}
 use Rattle.ipc_model.specs.Kinds.{Kinds, all_nodes, all_buffers, union_kind}
 use Rattle.ipc_model.specs.Entries.{Entries, IsSize, node, bytes, listed, Need, Limit, rows}
 use Rattle.ipc_model.specs.Columns.{IsWell, AllHaveRows, AllWell}
@@ -42,16 +42,16 @@ use Rattle.ipc_read_nested.proofs.UnionRules.{columns_count, sparse_fits, sparse
 
 -- Integers that were read are those in the buffer.
 pub integers_are :
-    {R : Type 0} (memory : R → Memory) (b : Body R) (p : PrimitiveType) (value : Endianness → List ℕ → ℤ) (w i n : ℕ) (v : List ℤ)
+    {R : Type 0} (d : Device R) (b : Body R) (p : PrimitiveType) (value : Endianness → List ℕ → ℤ) (w i n : ℕ) (v : List ℤ)
     → ((order : Endianness) (ys : List ℕ) → value order ys ≡ integer_of (number_in p order ys)) → ((order : Endianness) (ys : List ℕ) → value order (take w ys) ≡ value order ys)
-    → w ≡ width_of p → 0 < w → w * n ≤ length (bytes (entries memory b) i) → v ≡ values_of (value b.order) w (take (w * n) (bytes (entries memory b) i))
-    → v ≡ integers_of (entries memory b) i p n
-integers_are memory b p value w i n v is first width some long read =
-    let s = entries memory b in
+    → w ≡ width_of p → 0 < w → w * n ≤ length (bytes (entries d b) i) → v ≡ values_of (value b.order) w (take (w * n) (bytes (entries d b) i))
+    → v ≡ integers_of (entries d b) i p n
+integers_are d b p value w i n v is first width some long read =
+    let s = entries d b in
     let xs = bytes s i in
     sym (map-id v)
     ∙ pieces_are (λ z. z) (λ ys. integer_of (number_in p b.order ys)) (value b.order) w n xs v (λ ys. is b.order ys) (λ ys. first b.order ys) some long read
-    ∙ (λ k. map (λ j. integer_of (number_in p (order_is memory b k) (drop (width k * j) xs))) (range_with_len 0 n))
+    ∙ (λ k. map (λ j. integer_of (number_in p (order_is d b k) (drop (width k * j) xs))) (range_with_len 0 n))
 
 -- ---- the type of unions
 

@@ -4,8 +4,7 @@ use Rattle.std.specs.Prelude.{◌≡◌, ℕ, ◌≤◌, List, [], ◌∷◌, sl
 use Rattle.lower.specs.TypeTrees.{utf8, plain}
 use Rattle.lower.specs.declared.datatypes.UnionMode.TheVariants.{Sparse, Dense}
 use Rattle.lower_arrays.specs.Held.{held}
-use Rattle.ipc_model.specs.ColumnRows.{two, int32}
-use Rattle.ipc_model.specs.HeldRows.{read_array, no_texts}
+use Rattle.ipc_model.specs.Samples.{two, int32, read_array, no_texts}
 use Rattle.ipc_model.specs.Kinds.{offsets_32, offsets_64, Kind, binary_kind, utf8_kind, list_kind, map_kind, fixed_list_kind, struct_kind, union_kind}
 use Rattle.ipc_read_flat.specs.HeldListed.{empty_offsets, most_held}
 use Rattle.ipc_read_flat.specs.Kinds.{listed_in}

@@ -1,6 +1,6 @@
 -- Of memory: the bytes that were read were ahead. Of any device: which calls failed.
 use Rattle.std.proofs.Common.{◌≡◌, ℕ, zero, suc, ◌≤◌, List, [], ◌++◌, length, Option, None, Result, Ok, Err, Bool, IsTrue, true, false, refl, arith, ap, sym, subst}
-use Rattle.ipc_devices.specs.Device.{Memory, Rises, after}
+use Rattle.ipc_devices.specs.Device.{Device, Memory, Rises, after}
 use Rattle.ipc_devices.specs.Faults.{OnIo}
 use Rattle.ipc_devices.specs.Gives.{Stop, going, ended, failed, AnswerStop, Fails, Gives, GivesAhead, GivesFails}
 use Rattle.ipc_devices.specs.declared.fault.Fault.{Fault}
@@ -40,11 +40,11 @@ item_at_failure h s xs l q ys (Ok fronts.Waiting) e = absurd (cc e)
 item_at_failure h s xs l q ys (Ok fronts.Mark) e = absurd (cc e)
 item_at_failure h s xs l q ys (Err x) e = nothing_claimed x ((chosen_item h s xs ≡ done faulty) × BlamesFront h s xs (frame xs) x) e
 
-pub item_ahead : {S : Type 0} (gives : Gives S) (known : Bool) (memory : S → Memory) → GivesAhead known gives memory → IsTrue known
+pub item_ahead : {S : Type 0} (gives : Gives S) (d : Device S) → GivesAhead d gives → IsTrue d.is_memory
     → (h : Request) (k l : Known) (p q : List ℕ) (r : Result Found Fault) (a b : S) → ItemGave gives h k p a r l q b
-    → GivesItem h k (p ++ after (memory a)) r l q (q ++ after (memory b))
-item_ahead gives known memory law t h k l p q r a b g =
-    to_memory gives known memory law t (λ xs. IsWithinMessage (p ++ xs)) (λ all rest. GivesItem h k (p ++ all) r l q (q ++ rest)) (ItemStop r) a b
+    → GivesItem h k (p ++ after (d.memory a)) r l q (q ++ after (d.memory b))
+item_ahead gives d law t h k l p q r a b g =
+    to_memory gives d law t (λ xs. IsWithinMessage (p ++ xs)) (λ all rest. GivesItem h k (p ++ all) r l q (q ++ rest)) (ItemStop r) a b
     (λ xs ys e i. record { each = λ s at. item_at_end h s (p ++ xs) l q (q ++ []) (q ++ ys) r e (i.each s at) })
     (λ xs ys e. record { each = λ s at. item_at_failure h s (p ++ xs) l q (q ++ ys) r e }) g
 
@@ -70,10 +70,10 @@ metadata_at_failure : (xs : List ℕ) (f : Frame) (r : Result StreamMetadata Fau
 metadata_at_failure xs f (Ok x) ys s = absurd (cc s)
 metadata_at_failure xs f (Err e) ys s = no_refusal xs f e ys s
 
-pub metadata_ahead : {S : Type 0} (gives : Gives S) (known : Bool) (memory : S → Memory) → GivesAhead known gives memory → IsTrue known
-    → (r : Result StreamMetadata Fault) (a b : S) → MetadataGave gives a r b → GivesMetadata (after (memory a)) (frame (after (memory a))) r (after (memory b))
-metadata_ahead gives known memory law k r a b g =
-    to_memory gives known memory law k (λ xs. length xs ≤ due xs) (λ all rest. GivesMetadata all (frame all) r rest) (AnswerStop r) a b
+pub metadata_ahead : {S : Type 0} (gives : Gives S) (d : Device S) → GivesAhead d gives → IsTrue d.is_memory
+    → (r : Result StreamMetadata Fault) (a b : S) → MetadataGave gives a r b → GivesMetadata (after (d.memory a)) (frame (after (d.memory a))) r (after (d.memory b))
+metadata_ahead gives d law k r a b g =
+    to_memory gives d law k (λ xs. length xs ≤ due xs) (λ all rest. GivesMetadata all (frame all) r rest) (AnswerStop r) a b
     (λ xs ys s i. metadata_at_end xs (frame xs) r [] ys s i)
     (λ xs ys s. metadata_at_failure xs (frame xs) r ys s) g
 
@@ -99,20 +99,20 @@ items_fail gives failures fails h (suc n) k l p q r a b g =
     let f : Fails going (failures a) (failures c) = subst (λ (x : Stop). Fails x (failures a) (failures c)) i.stops (fails a i.run.bytes i.stop c i.run.gave) in
     risen_behind r (failures a) (failures c) (failures b) f (items_fail gives failures fails h n g.0 l g.1 q r c b g.4)
 
-module _ {R : Type 0} (gives : Gives R) (known : Bool) (memory : R → Memory) (failures : R → ℕ) (fails : GivesFails gives failures)
-    (a : StreamReader R) (r : Answer) (b : StreamReader R) (step : NextStep gives known memory a r b) where
-  by_over : (over : Bool) → is_over a ≡ over → OnIo (next_result r) (Rises (failures (device_of a)) (failures (device_of b))) × (failures (device_of a) ≤ failures (device_of b))
+module _ {R : Type 0} (gives : Gives R) (d : Device R) (fails : GivesFails gives d.failures)
+    (a : StreamReader R) (r : Answer) (b : StreamReader R) (step : NextStep gives d a r b) where
+  by_over : (over : Bool) → is_over a ≡ over → OnIo (next_result r) (Rises (d.failures (device_of a)) (d.failures (device_of b))) × (d.failures (device_of a) ≤ d.failures (device_of b))
   by_over true e =
-      let none : r ≡ None = (step.over e).0 in
-      let same : failures (device_of b) ≡ failures (device_of a) = ap failures (step.over e).2 in
-      (subst (λ (x : Answer). OnIo (next_result x) (Rises (failures (device_of a)) (failures (device_of b)))) (sym none) tt, omega (arith, same))
+      let none : r ≡ None = (step.state.over e).0 in
+      let same : d.failures (device_of b) ≡ d.failures (device_of a) = ap d.failures (step.state.over e).2 in
+      (subst (λ (x : Answer). OnIo (next_result x) (Rises (d.failures (device_of a)) (d.failures (device_of b)))) (sym none) tt, omega (arith, same))
   by_over false e =
       let g = step.gave e in
-      items_fail gives failures fails (request_of a) g.passed (known_of a) (known_of b) (begun_of a) (begun_of b) (next_result r) (device_of a) (device_of b) g.items
+      items_fail gives d.failures fails (request_of a) g.passed (known_of a) (known_of b) (begun_of a) (begun_of b) (next_result r) (device_of a) (device_of b) g.items
 
-pub next_fails : {R : Type 0} (gives : Gives R) (known : Bool) (memory : R → Memory) (failures : R → ℕ) → GivesFails gives failures → (a : StreamReader R)
-    → FailsLaw gives known memory failures a
-next_fails gives known memory failures fails a r b step = by_over gives known memory failures fails a r b step (is_over a) refl
+pub next_fails : {R : Type 0} (gives : Gives R) (d : Device R) → GivesFails gives d.failures → (a : StreamReader R)
+    → FailsLaw gives d a
+next_fails gives d fails a r b step = by_over gives d fails a r b step (is_over a) refl
 
 -- An error of metadata that is a device's: a call of it failed.
 pub metadata_fails : {S : Type 0} (gives : Gives S) (failures : S → ℕ) → GivesFails gives failures → (r : Result StreamMetadata Fault) (a b : S) → MetadataGave gives a r b

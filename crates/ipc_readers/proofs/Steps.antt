@@ -1,7 +1,7 @@
 -- What the messages that were read say of the meaning of a stream.
-use Rattle.std.proofs.Common.{◌≡◌, ℕ, zero, suc, List, [], ◌++◌, Bool, IsTrue, Option, None, Some, Result, Ok, Err, ◌∙◌}
+use Rattle.std.proofs.Common.{◌≡◌, ℕ, zero, suc, List, [], ◌++◌, IsTrue, Option, None, Some, Result, Ok, Err, ◌∙◌}
 use Rattle.ipc_devices.proofs.Claims.{claims_through}
-use Rattle.ipc_devices.specs.Device.{Memory, after}
+use Rattle.ipc_devices.specs.Device.{Device, after}
 use Rattle.ipc_devices.specs.Gives.{Gives, GivesAhead}
 use Rattle.ipc_devices.specs.declared.fault.Fault.{Fault}
 use Rattle.ipc_model.specs.Frame.{frame}
@@ -34,23 +34,23 @@ passed_next h s t xs zs (Ok None) l begun ys e g = e ∙ g
 passed_next h s t xs zs (Err x) l begun ys e g =
     claims_through x (chosen_meaning h t zs ≡ record { chunks = []; end = faulty }) (chosen_meaning h s xs ≡ record { chunks = []; end = faulty }) (λ f. e ∙ f) g
 
-module _ {S : Type 0} (gives : Gives S) (known : Bool) (memory : S → Memory) (law : GivesAhead known gives memory) (k : IsTrue known) (h : Request) where
+module _ {S : Type 0} (gives : Gives S) (d : Device S) (law : GivesAhead d gives) (k : IsTrue d.is_memory) (h : Request) where
   items_ahead : (n : ℕ) (s₀ l : Known) (p q : List ℕ) (r : Result (Option StreamState) Fault) (a b : S) → ItemsGave gives h n s₀ p a r l q b
-      → GivesNext h s₀ (p ++ after (memory a)) r l q (q ++ after (memory b))
+      → GivesNext h s₀ (p ++ after (d.memory a)) r l q (q ++ after (d.memory b))
   items_ahead zero s₀ l p q r a b g = record {
-    each = λ s at. front_next h s (p ++ after (memory a)) r l q (q ++ after (memory b)) ((item_ahead gives known memory law k h s₀ l p q (last_found r) a b g.0).each s at);
+    each = λ s at. front_next h s (p ++ after (d.memory a)) r l q (q ++ after (d.memory b)) ((item_ahead gives d law k h s₀ l p q (last_found r) a b g.0).each s at);
   }
   items_ahead (suc n) s₀ l p q r a b g = record {
     each = λ s at.
         let u = g.0 in
         let v = g.1 in
         let c = g.2 in
-        let first = (item_ahead gives known memory law k h s₀ u p v (Ok fronts.Dictionary) a c g.3).each s at in
+        let first = (item_ahead gives d law k h s₀ u p v (Ok fronts.Dictionary) a c g.3).each s at in
         let rest = (items_ahead n u l v q r c b g.4).each first.0 first.1 in
-        passed_next h s first.0 (p ++ after (memory a)) (v ++ after (memory c)) r l q (q ++ after (memory b))
-        (chosen_more h s (p ++ after (memory a)) None first.0 (v ++ after (memory c)) first.2) rest;
+        passed_next h s first.0 (p ++ after (d.memory a)) (v ++ after (d.memory c)) r l q (q ++ after (d.memory b))
+        (chosen_more h s (p ++ after (d.memory a)) None first.0 (v ++ after (d.memory c)) first.2) rest;
   }
 
   pub next_ahead : (s₀ l : Known) (p q : List ℕ) (r : Result (Option StreamState) Fault) (a b : S) → NextGave gives h s₀ p a r l q b
-      → GivesNext h s₀ (p ++ after (memory a)) r l q (q ++ after (memory b))
+      → GivesNext h s₀ (p ++ after (d.memory a)) r l q (q ++ after (d.memory b))
   next_ahead s₀ l p q r a b g = items_ahead g.passed s₀ l p q r a b g.items

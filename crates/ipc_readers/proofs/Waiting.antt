@@ -1,11 +1,11 @@
 -- A stream that waits, with its partial prefix.
-use Rattle.std.proofs.Common.{◌≡◌, ℕ, zero, suc, Bool, List, [], ◌++◌, Some, None, Ok, refl, subst, sym, ap, ◌∙◌, append-nil}
+use Rattle.ipc_devices.specs.Device.{Device}
+use Rattle.std.proofs.Common.{◌≡◌, ℕ, zero, suc, List, [], ◌++◌, Some, None, Ok, refl, subst, sym, ap, ◌∙◌, append-nil}
 use Rattle.ipc_stream_lemmas.specs.Agreement.{AreAt}
 use Rattle.ipc_model.specs.Streams.{Known, more}
 use Rattle.ipc_readers.proofs.ChosenStreams.{chosen_waits}
 use Rattle.ipc_readers.specs.ChosenStreams.{Request, chosen_item}
 use Rattle.ipc_readers.specs.Streams.{ItemsGave, request_of, begun_of, device_of, known_of}
-use Rattle.ipc_devices.specs.Device.{Memory}
 use Rattle.ipc_devices.specs.Gives.{Stop, going, ended, Follows, Gives, GivesCounted, GivesInOrder}
 use Rattle.ipc_readers.specs.Runs.{Passed, WaitsLaw}
 use Rattle.ipc_readers.specs.declared.read.stream.reader.StreamReader.{StreamReader}
@@ -53,9 +53,9 @@ module _ {S : Type 0} (gives : Gives S) (law : GivesInOrder gives) (h : Request)
             passed_more h s read.0 (p ++ (run.bytes ++ rest.bytes)) (v ++ rest.bytes) l q read.2 (rest.kept read.0 read.1);
       }
 
-pub waits_with_all : {R : Type 0} (gives : Gives R) (known : Bool) (memory : R → Memory) (given : R → ℕ) → GivesInOrder gives → GivesCounted gives given → (a : StreamReader R)
-    → WaitsLaw gives known memory given a
-waits_with_all gives known memory given law counts a b going_on step =
+pub waits_with_all : {R : Type 0} (gives : Gives R) (d : Device R) → GivesInOrder gives → GivesCounted gives d.given → (a : StreamReader R)
+    → WaitsLaw gives d a
+waits_with_all gives d law counts a b going_on step =
     let g = step.gave going_on in
     let all = items_wait gives law (request_of a) g.passed (known_of a) (known_of b) (begun_of a) (begun_of b) (device_of a) (device_of b) g.items in
     record {

@@ -62,6 +62,7 @@ frame_fault bytes = if word bytes == 0xFFFF_FFFF then marked_fault (drop 4 bytes
 -- ---- how the device stopped
 
 -- How reading 4 bytes stopped: at the end of the device if there are fewer.
+
 abbrev pub word_stop : {E : Type 0} → Result (Option ℕ) E → Stop
 word_stop (Ok (Some n)) = going
 word_stop (Ok None) = ended
@@ -76,6 +77,7 @@ frame_stop (Err e) = stop_of e
 -- ---- how many bytes a frame has, as far as its first bytes say
 
 -- A length that a frame states; 0 if it is negative.
+
 abbrev pub due_sized : ℕ → ℕ
 due_sized n = if nat_lt n (2 ^ 31) then n else 0
 

@@ -6,3 +6,4 @@ pub mod KeptValues
 pub mod Streams
 pub mod Refusals
 pub mod Runs
+pub mod Api

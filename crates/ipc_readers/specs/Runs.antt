@@ -1,7 +1,7 @@
 -- Calls of `next`, one after the other, on bytes that are known.
 -- (Arrow columnar format, "IPC Streaming Format".)
-use Rattle.std.specs.Prelude.{◌≡◌, ◌≢◌, ℕ, zero, suc, ◌≤◌, List, [], ◌∷◌, ◌++◌, length, Option, None, Some, Result, Ok, Err, Bool, false, IsTrue}
-use Rattle.ipc_devices.specs.Device.{Memory, Rises}
+use Rattle.std.specs.Prelude.{◌≡◌, ◌≢◌, ℕ, zero, suc, ◌≤◌, List, [], ◌∷◌, ◌++◌, length, Option, None, Some, Result, Ok, Err, false, IsTrue}
+use Rattle.ipc_devices.specs.Device.{Device, Rises}
 use Rattle.ipc_devices.specs.Faults.{OnIo, OwnFault}
 use Rattle.ipc_devices.specs.Gives.{ended, Counts, Gives}
 use Rattle.ipc_devices.specs.declared.fault.Fault.{Fault}
@@ -20,10 +20,10 @@ abbrev pub Answer : Type 0
 Answer = Option (Result StreamState Fault)
 
 -- The answers of some calls of `next`, one after the other, that begin with this reader.
-abbrev pub Calls : {R : Type 0} → Gives R → Bool → (R → Memory) → StreamReader R → List Answer → Type 0
-Calls gives known memory a [] = Unit {0}
-Calls {R} gives known memory a (r ∷ rs) =
-    (b : StreamReader R) × NextStep gives known memory a r b × Calls gives known memory b rs
+abbrev pub Calls : {R : Type 0} → Gives R → Device R → StreamReader R → List Answer → Type 0
+Calls gives d a [] = Unit {0}
+Calls {R} gives d a (r ∷ rs) =
+    (b : StreamReader R) × NextStep gives d a r b × Calls gives d b rs
 
 -- All answers are None.
 abbrev pub AreNone : List Answer → Type 0
@@ -44,10 +44,10 @@ AreAnswers _ _ _ = ⊥
 
 -- Theorem: a stream that doesn't end in a fault is read as what it means, by the requested columns
 -- and the dictionaries that the reader has.
-abbrev pub ReadLaw : {R : Type 0} → Gives R → Bool → (R → Memory) → StreamReader R → Type 0
-ReadLaw gives known memory a = (rs : List Answer) (s : Known) (cs : List Chunk) (e : End) → IsTrue known → is_over a ≡ false → Knows a s
-    → e ≢ faulty → chosen_meaning (request_of a) s (ahead memory a) ≡ record { chunks = cs; end = e }
-    → Calls gives known memory a rs → AreAnswers cs e rs
+abbrev pub ReadLaw : {R : Type 0} → Gives R → Device R → StreamReader R → Type 0
+ReadLaw gives d a = (rs : List Answer) (s : Known) (cs : List Chunk) (e : End) → IsTrue d.is_memory → is_over a ≡ false → Knows a s
+    → e ≢ faulty → chosen_meaning (request_of a) s (ahead d a) ≡ record { chunks = cs; end = e }
+    → Calls gives d a rs → AreAnswers cs e rs
 
 -- ---- calls of any device
 
@@ -75,11 +75,11 @@ pub record Waits {R : Type 0} (gives : Gives R) (given : R → ℕ) (a b : Strea
 
 -- Theorem: the bytes that were read before a wait are whole dictionary messages, which are known
 -- then, and after them the partial prefix.
-abbrev pub WaitsLaw : {R : Type 0} → Gives R → Bool → (R → Memory) → (R → ℕ) → StreamReader R → Type 0
-WaitsLaw {R} gives known memory given a = (b : StreamReader R) → is_over a ≡ false → NextStep gives known memory a (Some (Ok states.Waiting)) b
-    → Waits gives given a b
+abbrev pub WaitsLaw : {R : Type 0} → Gives R → Device R → StreamReader R → Type 0
+WaitsLaw {R} gives d a = (b : StreamReader R) → is_over a ≡ false → NextStep gives d a (Some (Ok states.Waiting)) b
+    → Waits gives d.given a b
 
 -- Theorem: if an error is a device's, a call of it failed; the count of failures never falls.
-abbrev pub FailsLaw : {R : Type 0} → Gives R → Bool → (R → Memory) → (R → ℕ) → StreamReader R → Type 0
-FailsLaw {R} gives known memory failures a = (r : Answer) (b : StreamReader R) → NextStep gives known memory a r b
-    → OnIo (next_result r) (Rises (failures (device_of a)) (failures (device_of b))) × (failures (device_of a) ≤ failures (device_of b))
+abbrev pub FailsLaw : {R : Type 0} → Gives R → Device R → StreamReader R → Type 0
+FailsLaw {R} gives d a = (r : Answer) (b : StreamReader R) → NextStep gives d a r b
+    → OnIo (next_result r) (Rises (d.failures (device_of a)) (d.failures (device_of b))) × (d.failures (device_of a) ≤ d.failures (device_of b))

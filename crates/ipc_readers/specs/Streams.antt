@@ -7,7 +7,7 @@ use Rattle.lower_arrays.specs.AnyLayouts.{layout_of}
 use Rattle.lower_arrays.specs.declared.array.AnyArray.{AnyArray}
 use Rattle.ipc_base.specs.IdTrees.{all_ids_view}
 use Rattle.ipc_read_flat.specs.Bodies.{known_dictionaries}
-use Rattle.ipc_devices.specs.Device.{Memory, after}
+use Rattle.ipc_devices.specs.Device.{Device, after}
 use Rattle.ipc_devices.specs.Faults.{OwnFault}
 use Rattle.ipc_devices.specs.Gives.{Stop, going, ended, FaultStop, AnswerStop, Gives, GaveTo}
 use Rattle.ipc_devices.specs.declared.fault.Fault.{Fault}
@@ -52,6 +52,7 @@ HasChunk (states.Some held) chunk = chunk ≡ held
 -- ---- the state of a reader
 
 -- The device of a reader.
+
 abbrev pub device_of : {R : Type 0} → StreamReader R → R
 device_of r = r.reader
 
@@ -104,6 +105,7 @@ pub record IsUnread {R : Type 0} (device : R) (metadata : StreamMetadata) (r : S
 -- ---- the request to a reader
 
 -- The schema and the version of a stream, from what its schema message said.
+
 abbrev pub head_of : StreamMetadata → Head
 head_of m = record {
   schema = record {
@@ -312,8 +314,8 @@ pub record NextGave {S : Type 0} (gives : Gives S) (h : Request) (k : Known) (p 
 -- ---- calls of `next`
 
 -- The bytes ahead of a reader: the partial prefix, and then those of the device.
-abbrev pub ahead : {R : Type 0} → (R → Memory) → StreamReader R → List ℕ
-ahead memory r = begun_of r ++ after (memory (device_of r))
+abbrev pub ahead : {R : Type 0} → Device R → StreamReader R → List ℕ
+ahead d r = begun_of r ++ after (d.memory (device_of r))
 
 -- What r says of a stream xs, for the request h and by what `s` says; ys is ahead then, and `l` is
 -- known. A chunk is the first of the stream, and the rest of the stream means what ys means. Else
@@ -345,17 +347,29 @@ ends None = true
 ends (Some (Ok x)) = false
 ends (Some (Err e)) = true
 
--- What a call of `next` reads and returns, and the reader after it. The dictionaries of a chunk are
--- those that the reader knows. Their arrays are those from before, or were set by messages that
--- this call read. After the end or an error the device isn't read.
-pub record NextStep {R : Type 0} (gives : Gives R) (known : Bool) (memory : R → Memory) (a : StreamReader R) (r : Option (Result StreamState Fault)) (b : StreamReader R) : Type 0 where
-  pub only : IfErr (next_result r) (λ e. OwnFault e (IsStreamFault (request_of a) e))
+-- The reader after a call of `next`.
+pub record StreamReaderState {R : Type 0} (a : StreamReader R) (r : Option (Result StreamState Fault)) (b : StreamReader R) : Type 0 where
+  -- What the schema message says stays.
   pub described : metadata_of b ≡ metadata_of a
+  -- The requested columns stay.
   pub projected : chosen_of b ≡ chosen_of a
+  -- After the end or an error it returns None, and the device isn't read.
   pub over : is_over a ≡ true → (r ≡ None) × (is_over b ≡ true) × (device_of b ≡ device_of a)
+  -- It is over after None or an error.
   pub finished : is_over a ≡ false → is_over b ≡ ends r
-  pub values : IfOk (next_result r) (StateHasValues b.batches)
-  pub held : KeepsValues gives (request_of a) (begun_of a) (device_of a) (device_of b) (values_of a) (values_of b)
+
+-- What a call of `next` reads and returns, and the reader after it.
+pub record NextStep {R : Type 0} (gives : Gives R) (d : Device R) (a : StreamReader R) (r : Option (Result StreamState Fault)) (b : StreamReader R) : Type 0 where
+  -- Reading from memory, it is right for the bytes that are ahead.
+  pub exact : IsTrue d.is_memory → is_over a ≡ false
+      → GivesNext (request_of a) (known_of a) (ahead d a) (next_result r) (known_of b) (begun_of b) (ahead d b)
+  -- An error is one of a stream with this schema.
+  pub causes : IfErr (next_result r) (λ e. OwnFault e (IsStreamFault (request_of a) e))
+  -- Which bytes the device returned, and what they mean.
   pub gave : is_over a ≡ false → NextGave gives (request_of a) (known_of a) (begun_of a) (device_of a) (next_result r) (known_of b) (begun_of b) (device_of b)
-  pub next : IsTrue known → is_over a ≡ false
-      → GivesNext (request_of a) (known_of a) (ahead memory a) (next_result r) (known_of b) (begun_of b) (ahead memory b)
+  -- The arrays of dictionary values are those from before, or were set by messages that were read.
+  pub held : KeepsValues gives (request_of a) (begun_of a) (device_of a) (device_of b) (values_of a) (values_of b)
+  -- The arrays of a chunk have the values that the reader knows of their dictionaries.
+  pub values : IfOk (next_result r) (StateHasValues b.batches)
+  -- What became of the reader.
+  pub state : StreamReaderState a r b

@@ -9,7 +9,7 @@ use Rattle.ipc_model.specs.Kinds.{count}
 use Rattle.ipc_model.specs.Schemas.{head_of as head_at}
 use Rattle.ipc_model.specs.Streams.{End, Head, Meant, faulty, marked, waits, meaning, nothing_known}
 use Rattle.ipc_model.specs.WholeStreams.{Stream, stream_from, stream_of}
-use Rattle.ipc_devices.specs.Device.{Memory, after}
+use Rattle.ipc_devices.specs.Device.{Device, after}
 use Rattle.ipc_devices.specs.Faults.{OwnFault}
 use Rattle.ipc_devices.specs.declared.fault.Fault.{Fault}
 use Rattle.ipc_base.specs.IdTrees.{all_ids_view}
@@ -22,7 +22,7 @@ use Rattle.ipc_readers.specs.declared.read.stream.metadata.StreamMetadata.{Strea
 use Rattle.ipc_readers.specs.declared.read.stream.reader.StreamReader.{StreamReader}
 use Rattle.ipc_round_trip.proofs.Streams.{chosen_ahead, ends_marked, ends_waiting, head_is, no_head, seen_stream, stream_or}
 use Rattle.ipc_round_trip.specs.Choosing.{ChosenFinishedLaw, ChosenOpenLaw, ChosenOpenReadableLaw, ChosenReadableLaw, IsReadableBy, NamesOthers, chosen_from, chosen_stream_of}
-use Rattle.ipc_round_trip.specs.Reading.{RefusesAhead}
+use Rattle.ipc_round_trip.specs.Reading.{AheadCause}
 
 -- ---- what is read
 
@@ -65,15 +65,15 @@ none_readable p bytes xs rest e same h =
     (none_chosen p bytes (frame bytes) e rest (subst (λ ys. GivesMetadata ys (frame ys) (Err e) rest) same h))
 
 -- a stream whose chunks are refused can't be read
-pub refused_columns : {R : Type 0} (memory : R → Memory) (device : R) (p : Option (List ℕ)) (bytes xs : List ℕ) (x : StreamMetadata) (r : StreamReader R) (e : Fault) → xs ≡ bytes
-    → GivesMetadata xs (frame xs) (Ok x) (after (memory device)) → IsUnread device x r → projection_of r ≡ p → RefusesAhead memory r e → OwnFault e (¬ (IsReadableBy p bytes))
-refused_columns memory device p bytes xs x r e same h begins asked refused =
+pub refused_columns : {R : Type 0} (d : Device R) (device : R) (p : Option (List ℕ)) (bytes xs : List ℕ) (x : StreamMetadata) (r : StreamReader R) (e : Fault) → xs ≡ bytes
+    → GivesMetadata xs (frame xs) (Ok x) (after (d.memory device)) → IsUnread device x r → projection_of r ≡ p → AheadCause d r e → OwnFault e (¬ (IsReadableBy p bytes))
+refused_columns d device p bytes xs x r e same h begins asked refused =
     claims_through e _ _ (λ ends readable.
-    let rest = after (memory device) in
+    let rest = after (d.memory device) in
     let meant = chosen_meaning (record { head = head_of x; projection = p }) nothing_known rest in
     let none : Stream = record { head = head_of x; meant = meant } in
     let there = sym (chosen_whole p bytes xs rest x same h) ∙ readable.stream in
-    let end_is : meant.end ≡ faulty = ends meant (chosen_ahead memory device x x r p begins refl asked) in
+    let end_is : meant.end ≡ faulty = ends meant (chosen_ahead d device x x r p begins refl asked) in
     readable.sound (sym (ap (λ (o : Option Stream). (stream_or o none).meant.end) there) ∙ end_is)) refused
 
 -- ---- what was written

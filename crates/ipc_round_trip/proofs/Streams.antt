@@ -1,6 +1,6 @@
 -- What is read of a whole stream is what its bytes mean.
 use Rattle.std.proofs.Common.{arith, inl, inr, ◌≡◌, ◌-◌, ℕ, length, append-nil, take_all, subst, List, [], ◌++◌, Option, None, Some, Result, Ok, Err, Bool, true, false, refl, sym, ap, ◌∙◌}
-use Rattle.std.specs.Prelude.{◌⊎◌, option_map, pos, Vec, vec_capacity, vec_len}
+use Rattle.std.specs.Prelude.{◌⊎◌, option_map, pos, Vec}
 use Rattle.std.specs.declared.alloc.Global.{Global}
 use Rattle.std.specs.Result.{result_ok}
 use Rattle.std.specs.declared.io.Error.{Error}
@@ -8,7 +8,7 @@ use Rattle.lower.specs.TypeViews.{schema_view}
 use Rattle.ipc_devices.proofs.Claims.{claimed, claims_through}
 use Rattle.ipc_base.specs.IdTrees.{IdTrees, ipc_schema_view}
 use Rattle.std.specs.Borrow.{Bor}
-use Rattle.ipc_devices.specs.Device.{Memory, after, before}
+use Rattle.ipc_devices.specs.Device.{Device, Memory, after, before, memory_device}
 use Rattle.ipc_devices.specs.declared.memory.MemFile.{MemFile}
 use Rattle.ipc_devices.specs.Faults.{OnIo, OwnFault}
 use Rattle.ipc_devices.specs.Gives.{Gives, MemoryGives}
@@ -38,20 +38,20 @@ use Rattle.ipc_readers.specs.Refusals.{IsStreamFault}
 use Rattle.ipc_readers.specs.Streams.{IsUnread, ahead, request_of, device_of, head_of, projection_of}
 use Rattle.ipc_readers.specs.declared.read.stream.metadata.StreamMetadata.{StreamMetadata}
 use Rattle.ipc_readers.specs.declared.read.stream.reader.StreamReader.{StreamReader}
-use Rattle.ipc_round_trip.specs.Reading.{BlamesStream, EndsAs, IsReadable, MeansAhead, ReadsStream, RefusesAhead, RefusesStream}
+use Rattle.ipc_round_trip.specs.Reading.{StreamCause, EndsAs, IsReadable, MeansAhead, ReadsStream, AheadCause, InMemoryCause}
 use Rattle.ipc_write.specs.Agreement.{Agrees, HasEnded, Remains, StreamIs}
 use Rattle.ipc_write.specs.Framing.{prefix_bytes}
 use Rattle.ipc_model.specs.WriterStates.{IsRun}
 use Rattle.ipc_write.specs.Calls.{AreMade, ended_as, state_seen, writer_in}
 use Rattle.ipc_write.proofs.Vectors.{is_full}
-use Rattle.ipc_write.specs.Vectors.{vector_room}
 use Rattle.ipc_write.specs.Writers.{RefusesFinish, SendStep, StateComesFirst, WriterSeen, fault_unless_started}
 use Rattle.ipc_write.specs.declared.calls.StreamCall.{StreamCall}
 use Rattle.ipc_write.specs.declared.stream.WriterState.{WriterState}
 use Rattle.ipc_write.specs.declared.stream.WriterState.TheVariants.{Failed, Finished, New, Started}
 use Rattle.ipc_write.proofs.CallLists.{made_order, made_run}
-use Rattle.ipc_round_trip.specs.RoundTrip.{EndsStream, FinishedLaw, OpenLaw, OpenReadableLaw, ReadableLaw, RefusesEnd, RefusesRoundTrip, RunsOverMemory, RunsToStream, vector}
+use Rattle.ipc_round_trip.specs.RoundTrip.{EndsStream, FinishedLaw, OpenLaw, OpenReadableLaw, ReadableLaw, StreamEndCause, RoundTripCause, RunsOverMemory, RunsToStream, vector}
 use Rattle.ipc_round_trip.specs.declared.read.WholeStream.{WholeStream}
+use Rattle.ipc_write.specs.Vectors.{vectors}
 
 -- A stream that has a meaning.
 abbrev pub stream_or : Option Stream → Stream → Stream
@@ -133,9 +133,9 @@ unreadable bytes xs rest e same h =
     (no_stream bytes (frame bytes) e rest (subst (λ ys. GivesMetadata ys (frame ys) (Err e) rest) same h))
 
 -- The error of the first message.
-pub blames_front : (bytes xs rest : List ℕ) (stream : Option Stream) (p : Option (List ℕ)) (e : Fault) → xs ≡ bytes → GivesMetadata xs (frame xs) (Err e) rest → OwnFault e (BlamesStream bytes stream p e)
+pub blames_front : (bytes xs rest : List ℕ) (stream : Option Stream) (p : Option (List ℕ)) (e : Fault) → xs ≡ bytes → GivesMetadata xs (frame xs) (Err e) rest → OwnFault e (StreamCause bytes stream p e)
 blames_front bytes xs rest stream p e same h =
-    claimed e (BlamesStream bytes stream p e) (inl (rest, subst (λ ys. GivesMetadata ys (frame ys) (Err e) rest) same h))
+    claimed e (StreamCause bytes stream p e) (inl (rest, subst (λ ys. GivesMetadata ys (frame ys) (Err e) rest) same h))
 
 -- ---- a new reader
 
@@ -143,16 +143,20 @@ blames_front bytes xs rest stream p e same h =
 abbrev pub slice_memory : MemFile (Bor (List ℕ)) → Memory
 slice_memory f = record { whole = f.inner.now; place = f.position }
 
+-- as a device
+abbrev pub slices : Device (MemFile (Bor (List ℕ)))
+slices = memory_device slice_memory (λ f. f.given) (λ f. 0 - f.position)
+
 -- The bytes that its reads give.
 abbrev pub slice_gives : Gives (MemFile (Bor (List ℕ)))
 slice_gives a xs e b = MemoryGives (slice_memory a) a.given xs e (slice_memory b) b.given
 
 pub slice_metadata : (r : Result StreamMetadata Fault) (a b : MemFile (Bor (List ℕ))) → MetadataGave slice_gives a r b
     → GivesMetadata (after (slice_memory a)) (frame (after (slice_memory a))) r (after (slice_memory b))
-slice_metadata r a b g = metadata_ahead slice_gives true slice_memory (λ a xs e b k g. g.takes) refl r a b g
+slice_metadata r a b g = metadata_ahead slice_gives slices (λ a xs e b k g. g.takes) refl r a b g
 
 -- Reading from memory never returns a device's error.
-pub refuses_stream : (e : Fault) (P : Type 0) → OnIo {X = WholeStream} (Err e) ⊥ → OwnFault e P → RefusesStream e P
+pub refuses_stream : (e : Fault) (P : Type 0) → OnIo {X = WholeStream} (Err e) ⊥ → OwnFault e P → InMemoryCause e P
 refuses_stream faults.Memory P own h = tt
 refuses_stream (faults.Io e) P own h = own
 refuses_stream (faults.OutOfSpec k) P own h = h
@@ -174,10 +178,10 @@ head_same a b s v d = λ i. record {
   version = v i;
 }
 
-new_rest : {R : Type 0} (memory : R → Memory) (device : R) (a : StreamMetadata) (r : StreamReader R) → IsUnread device a r → ahead memory r ≡ after (memory device)
-new_rest memory device a r h =
-    ap (λ xs. xs ++ after (memory (device_of r))) h.begun
-    ∙ ap (λ d. after (memory d)) h.reader
+new_rest : {R : Type 0} (d : Device R) (device : R) (a : StreamMetadata) (r : StreamReader R) → IsUnread device a r → ahead d r ≡ after (d.memory device)
+new_rest d device a r h =
+    ap (λ xs. xs ++ after (d.memory (device_of r))) h.begun
+    ∙ ap (λ x. after (d.memory x)) h.reader
 
 -- The request to a new reader.
 asked_new : {R : Type 0} (device : R) (a b : StreamMetadata) (r : StreamReader R) (p : Option (List ℕ)) → IsUnread device a r → head_of a ≡ head_of b → projection_of r ≡ p
@@ -186,7 +190,7 @@ asked_new device a b r p h e asked = let heads = ap head_of h.described ∙ e in
 
 -- The error of a message after it.
 pub blames_message : {R : Type 0} (device : R) (bytes : List ℕ) (stream : Option Stream) (meant : Meant) (a b : StreamMetadata) (r : StreamReader R) (p : Option (List ℕ)) (e : Fault) → IsUnread device a r → head_of a ≡ head_of b
-    → projection_of r ≡ p → stream ≡ Some (record { head = head_of b; meant = meant }) → OwnFault e (IsStreamFault (request_of r) e) → OwnFault e (BlamesStream bytes stream p e)
+    → projection_of r ≡ p → stream ≡ Some (record { head = head_of b; meant = meant }) → OwnFault e (IsStreamFault (request_of r) e) → OwnFault e (StreamCause bytes stream p e)
 blames_message device bytes stream meant a b r p e begins heads asked is own =
     claims_through e _ _ (λ kind. inr (record {
       head = head_of b;
@@ -197,21 +201,21 @@ blames_message device bytes stream meant a b r p e begins heads asked is own =
 
 -- The bytes ahead of a new reader are those after the schema, by no
 -- dictionaries and the requested columns.
-pub chosen_ahead : {R : Type 0} (memory : R → Memory) (device : R) (a b : StreamMetadata) (r : StreamReader R) (p : Option (List ℕ)) → IsUnread device a r → head_of a ≡ head_of b
-    → projection_of r ≡ p → MeansAhead memory r (chosen_meaning (record { head = head_of b; projection = p }) nothing_known (after (memory device)))
-chosen_ahead memory device a b r p h e asked = record {
+pub chosen_ahead : {R : Type 0} (d : Device R) (device : R) (a b : StreamMetadata) (r : StreamReader R) (p : Option (List ℕ)) → IsUnread device a r → head_of a ≡ head_of b
+    → projection_of r ≡ p → MeansAhead d r (chosen_meaning (record { head = head_of b; projection = p }) nothing_known (after (d.memory device)))
+chosen_ahead d device a b r p h e asked = record {
   known = nothing_known;
   knows = h.knows;
   means =
-      ap (λ (g : Request). chosen_meaning g nothing_known (ahead memory r)) (asked_new device a b r p h e asked)
-      ∙ ap (chosen_meaning (record { head = head_of b; projection = p }) nothing_known) (new_rest memory device a r h);
+      ap (λ (g : Request). chosen_meaning g nothing_known (ahead d r)) (asked_new device a b r p h e asked)
+      ∙ ap (chosen_meaning (record { head = head_of b; projection = p }) nothing_known) (new_rest d device a r h);
 }
 
 -- the same of all columns
-pub new_ahead : {R : Type 0} (memory : R → Memory) (device : R) (a b : StreamMetadata) (r : StreamReader R) → IsUnread device a r → head_of a ≡ head_of b → projection_of r ≡ None
-    → MeansAhead memory r (meaning (head_of b) nothing_known (after (memory device)))
-new_ahead memory device a b r h e asked =
-    subst (λ (m : Meant). MeansAhead memory r m) (whole_law (head_of b) nothing_known (after (memory device))) (chosen_ahead memory device a b r None h e asked)
+pub new_ahead : {R : Type 0} (d : Device R) (device : R) (a b : StreamMetadata) (r : StreamReader R) → IsUnread device a r → head_of a ≡ head_of b → projection_of r ≡ None
+    → MeansAhead d r (meaning (head_of b) nothing_known (after (d.memory device)))
+new_ahead d device a b r h e asked =
+    subst (λ (m : Meant). MeansAhead d r m) (whole_law (head_of b) nothing_known (after (d.memory device))) (chosen_ahead d device a b r None h e asked)
 
 pub ends_same : (x y : Bool) (e : End) → x ≡ y → EndsAs y e → EndsAs x e
 ends_same x y e f h = subst (λ (b : Bool). EndsAs b e) (sym f) h
@@ -219,15 +223,15 @@ ends_same x y e f h = subst (λ (b : Bool). EndsAs b e) (sym f) h
 -- ---- chunks that are refused
 
 -- a stream whose chunks are refused can't be read
-pub refused_chunks : {R : Type 0} (memory : R → Memory) (device : R) (bytes xs : List ℕ) (a b : StreamMetadata) (r : StreamReader R) (e : Fault) → xs ≡ bytes
-    → GivesMetadata xs (frame xs) (Ok b) (after (memory device)) → IsUnread device a r → head_of a ≡ head_of b → projection_of r ≡ None → RefusesAhead memory r e → OwnFault e (¬ (IsReadable bytes))
-refused_chunks memory device bytes xs a b r e same h begins heads asked refused =
+pub refused_chunks : {R : Type 0} (d : Device R) (device : R) (bytes xs : List ℕ) (a b : StreamMetadata) (r : StreamReader R) (e : Fault) → xs ≡ bytes
+    → GivesMetadata xs (frame xs) (Ok b) (after (d.memory device)) → IsUnread device a r → head_of a ≡ head_of b → projection_of r ≡ None → AheadCause d r e → OwnFault e (¬ (IsReadable bytes))
+refused_chunks d device bytes xs a b r e same h begins heads asked refused =
     claims_through e _ _ (λ ends readable.
-    let rest = after (memory device) in
+    let rest = after (d.memory device) in
     let meant = meaning (head_of b) nothing_known rest in
     let none : Stream = record { head = head_of b; meant = meant } in
     let there = sym (whole_stream bytes xs rest b same h) ∙ readable.stream in
-    let end_is : meant.end ≡ faulty = ends meant (new_ahead memory device a b r begins heads asked) in
+    let end_is : meant.end ≡ faulty = ends meant (new_ahead d device a b r begins heads asked) in
     readable.sound (sym (ap (λ (o : Option Stream). (stream_or o none).meant.end) there) ∙ end_is)) refused
 
 -- ---- what was written
@@ -280,12 +284,12 @@ pub vector_before : (v : Vec ℕ Global) → before (vector v) ≡ v.items
 vector_before v = whole_before v.items v.len (omega (arith, v.ok))
 
 -- A writer that is finished has written its stream.
-pub ends_stream : (a b : WriterSeen (Vec ℕ Global)) (v : Vec ℕ Global) → Remains true vector a b → b.state ≡ Finished → v ≡ b.device → EndsStream a v.items
+pub ends_stream : (a b : WriterSeen (Vec ℕ Global)) (v : Vec ℕ Global) → Remains vectors a b → b.state ≡ Finished → v ≡ b.device → EndsStream a v.items
 ends_stream a b v remains over same = record {
   stream = λ head chunks agrees. held head chunks (remains.kept refl [] head chunks agrees);
 }
   where
-    held : (head : Head) (chunks : List Chunk) → Agrees vector b [] head chunks → HasEnded v.items head chunks
+    held : (head : Head) (chunks : List Chunk) → Agrees vectors b [] head chunks → HasEnded v.items head chunks
     held head chunks h =
         let stream : HasEnded h.bytes head chunks = subst (λ s. StreamIs s b h.bytes head chunks) over h.stream in
         let all : v.items ≡ h.bytes = sym (vector_before v) ∙ ap (λ w. before (vector w)) same ∙ h.held in
@@ -294,7 +298,7 @@ ends_stream a b v remains over same = record {
 -- ---- what the calls leave
 
 pub runs_over_memory : (o : Endianness) (a b : WriterSeen (Vec ℕ Global)) (fs : FieldTrees) (es : Pairs) (is : IdTrees) (calls : List StreamCall) (answers : List (Result (Unit {0}) Fault)) (state : WriterState) → a.state ≡ New → a.order ≡ o → a.device.items ≡ []
-    → AreMade true true (λ v. 0) (λ v. vec_capacity v - vec_len v) vector fs es is a calls answers b → b.state ≡ state → RunsOverMemory o fs es is calls answers state
+    → AreMade vectors fs es is a calls answers b → b.state ≡ state → RunsOverMemory o fs es is calls answers state
 runs_over_memory o a b fs es is calls answers state new ordered empty made left = record {
   first = a;
   last = b;
@@ -304,8 +308,8 @@ runs_over_memory o a b fs es is calls answers state new ordered empty made left 
   made = made;
   left = left;
   run =
-      let stays = made_order true true (λ v. 0) (λ v. vec_capacity v - vec_len v) vector fs es is a b calls answers made in
-      let run = made_run true true (λ v. 0) (λ v. vec_capacity v - vec_len v) vector fs es is a b calls answers made in
+      let stays = made_order vectors fs es is a b calls answers made in
+      let run = made_run vectors fs es is a b calls answers made in
       subst (λ s. IsRun (writer_in o (state_seen s)) (ended_as calls answers) (writer_in o (state_seen state))) new
       (subst (λ s. IsRun (writer_in o (state_seen a.state)) (ended_as calls answers) (writer_in o (state_seen s))) left
       (subst (λ (q : Endianness). IsRun (writer_in o (state_seen a.state)) (ended_as calls answers) (writer_in q (state_seen b.state))) (stays ∙ ordered)
@@ -314,12 +318,12 @@ runs_over_memory o a b fs es is calls answers state new ordered empty made left 
 
 -- A writer that was finished, or refused to be.
 pub runs_to_stream : (o : Endianness) (a b : WriterSeen (Vec ℕ Global)) (fs : FieldTrees) (es : Pairs) (is : IdTrees) (calls : List StreamCall) (answers : List (Result (Unit {0}) Fault)) → a.state ≡ New → a.order ≡ o → a.device.items ≡ []
-    → AreMade true true (λ v. 0) (λ v. vec_capacity v - vec_len v) vector fs es is a calls answers b → (b.state ≡ Started) ⊎ (b.state ≡ Finished) → RunsToStream o fs es is calls answers
+    → AreMade vectors fs es is a calls answers b → (b.state ≡ Started) ⊎ (b.state ≡ Finished) → RunsToStream o fs es is calls answers
 runs_to_stream o a b fs es is calls answers new ordered empty made (inl left) = inl (runs_over_memory o a b fs es is calls answers Started new ordered empty made left)
 runs_to_stream o a b fs es is calls answers new ordered empty made (inr left) = inr (runs_over_memory o a b fs es is calls answers Finished new ordered empty made left)
 
 pub refused_end : (o : Endianness) (a b : WriterSeen (Vec ℕ Global)) (fs : FieldTrees) (es : Pairs) (is : IdTrees) (calls : List StreamCall) (answers : List (Result (Unit {0}) Fault)) (e : Fault) → a.state ≡ New → a.order ≡ o → a.device.items ≡ []
-    → AreMade true true (λ v. 0) (λ v. vec_capacity v - vec_len v) vector fs es is a calls answers b → RefusesEnd b e → RefusesRoundTrip o fs es is calls e
+    → AreMade vectors fs es is a calls answers b → StreamEndCause b e → RoundTripCause o fs es is calls e
 unfolding runs_over_memory
 refused_end o a b fs es is calls answers (faults.State NotStarted) new ordered empty made h = record { answers = answers; runs = runs_over_memory o a b fs es is calls answers New new ordered empty made h; holds = tt }
 refused_end o a b fs es is calls answers (faults.State StateFailed) new ordered empty made h = record { answers = answers; runs = runs_over_memory o a b fs es is calls answers Failed new ordered empty made h; holds = tt }
@@ -343,10 +347,10 @@ refuses_state Finished x going e = absurd (going refl)
 refuses_state Failed x going e = inr (refl, let same : x ≡ StateFailed = cc in same)
 
 pub refuses_end : (a b : WriterSeen (Vec ℕ Global)) → (a.state ≡ Finished → ⊥) → (e : Fault) → StateComesFirst (fault_unless_started a.state) a (Err e) b
-    → SendStep true true (λ v. 0) vector_room vector a (Err e) b (prefix_bytes (pos 0)) 8 → RefusesFinish a.state e → RefusesEnd a e
+    → SendStep vectors a (Err e) b (prefix_bytes (pos 0)) 8 → RefusesFinish a.state e → StreamEndCause a e
 refuses_end a b going (faults.State x) first step only = elim (refuses_state a.state x going only) [
-  | inl h ↦ subst (λ (y : StateFault). RefusesEnd a (faults.State y)) (sym h.1) h.0
-  | inr h ↦ subst (λ (y : StateFault). RefusesEnd a (faults.State y)) (sym h.1) h.0
+  | inl h ↦ subst (λ (y : StateFault). StreamEndCause a (faults.State y)) (sym h.1) h.0
+  | inr h ↦ subst (λ (y : StateFault). StreamEndCause a (faults.State y)) (sym h.1) h.0
 ]
 refuses_end a b going (faults.Io x) first step only = record { started = started_first a.state a b x first; full = is_full _ _ step.io.1 }
 refuses_end a b going _ first step only = absurd only
@@ -354,7 +358,7 @@ refuses_end a b going _ first step only = absurd only
 -- ---- what is never refused
 
 -- Reading a readable stream fails only if an allocation fails.
-pub never_refused : (o : Endianness) (fs : FieldTrees) (es : Pairs) (is : IdTrees) (calls : List StreamCall) (bytes : List ℕ) (e : Fault) → IsReadable bytes → ReadsStream bytes (Err e) → RefusesRoundTrip o fs es is calls e
+pub never_refused : (o : Endianness) (fs : FieldTrees) (es : Pairs) (is : IdTrees) (calls : List StreamCall) (bytes : List ℕ) (e : Fault) → IsReadable bytes → ReadsStream bytes (Err e) → RoundTripCause o fs es is calls e
 never_refused o fs es is calls bytes faults.Memory readable h = tt
 never_refused o fs es is calls bytes (faults.Io e) readable h = absurd h
 never_refused o fs es is calls bytes _ readable h = absurd (h.0 readable)

@@ -13,7 +13,7 @@ use Rattle.ipc_model.specs.WholeStreams.{Stream}
 use Rattle.ipc_model.specs.Writers.{IsFinished, IsStarted}
 use Rattle.ipc_readers.specs.ChosenStreams.{chosen_meaning}
 use Rattle.ipc_readers.specs.Streams.{head_of}
-use Rattle.ipc_round_trip.specs.Reading.{BlamesStream, EndsAs, RefusesStream, chunks_seen}
+use Rattle.ipc_round_trip.specs.Reading.{StreamCause, EndsAs, InMemoryCause, chunks_seen}
 use Rattle.ipc_round_trip.specs.RoundTrip.{Reads}
 use Rattle.ipc_round_trip.specs.declared.read.WholeStream.{WholeStream}
 
@@ -56,7 +56,7 @@ pub record NamesOthers (js : List ℕ) (bytes : List ℕ) : Type 0 where
 abbrev pub ReadsColumns : List ℕ → List ℕ → Result (Option WholeStream) Fault → Type 0
 ReadsColumns js bytes (Ok None) = NamesOthers js bytes
 ReadsColumns js bytes (Ok (Some s)) = IsWholeBy (Some js) bytes s
-ReadsColumns js bytes (Err e) = RefusesStream e ((¬ (IsReadableBy (Some js) bytes)) × BlamesStream bytes (chosen_stream_of (Some js) bytes) (Some js) e)
+ReadsColumns js bytes (Err e) = InMemoryCause e ((¬ (IsReadableBy (Some js) bytes)) × StreamCause bytes (chosen_stream_of (Some js) bytes) (Some js) e)
 
 -- A finished stream that was written is read, by a projection to columns that exist, as the chosen
 -- columns of its chunks, in the requested order.

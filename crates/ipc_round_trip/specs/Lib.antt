@@ -1,3 +1,4 @@
+pub mod Api
 pub mod Reading
 pub mod RoundTrip
 pub mod Choosing

@@ -1,6 +1,6 @@
 -- What a stream writer wrote is what a stream reader reads.
 -- (Arrow columnar format, "IPC Streaming Format".)
-use Rattle.std.specs.Prelude.{◌≡◌, ℕ, ◌-◌, ◌<◌, ◌⊎◌, List, [], Bool, true, false, Result, Vec, vec_capacity, vec_len}
+use Rattle.std.specs.Prelude.{◌≡◌, ℕ, ◌<◌, ◌⊎◌, List, [], Bool, true, false, Result, Vec, vec_len}
 use Rattle.std.specs.declared.alloc.Global.{Global}
 use Rattle.ipc_base.specs.IdTrees.{IdTrees}
 use Rattle.ipc_devices.specs.Device as devices
@@ -16,7 +16,7 @@ use Rattle.ipc_model.specs.Writers.{IsFinished, IsStarted}
 use Rattle.ipc_readers.specs.Streams.{head_of}
 use Rattle.ipc_write.specs.Agreement.{Agrees, HasEnded}
 use Rattle.ipc_write.specs.Calls.{AreMade, ended_as, state_seen, writer_in}
-use Rattle.ipc_write.specs.Vectors.{vector_room}
+use Rattle.ipc_write.specs.Vectors.{vector_room, vectors}
 use Rattle.ipc_write.specs.Writers.{WriterSeen}
 use Rattle.ipc_write.specs.declared.calls.StreamCall.{StreamCall}
 use Rattle.ipc_write.specs.declared.stream.WriterState.{WriterState}
@@ -59,7 +59,7 @@ vector v = record { whole = v.items; place = vec_len v }
 
 -- The bytes are a finished stream of what a writer wrote, which began with empty memory.
 pub record EndsStream (w : WriterSeen (Vec ℕ Global)) (bytes : List ℕ) : Type 0 where
-  pub stream : (head : Head) (chunks : List Chunk) → Agrees vector w [] head chunks → HasEnded bytes head chunks
+  pub stream : (head : Head) (chunks : List Chunk) → Agrees vectors w [] head chunks → HasEnded bytes head chunks
 
 -- ---- the calls
 
@@ -71,7 +71,7 @@ pub record RunsOverMemory (order : Endianness) (fields : FieldTrees) (metadata :
   pub new : first.state ≡ writer.New
   pub order_is : first.order ≡ order
   pub empty : first.device.items ≡ []
-  pub made : AreMade true true (λ v. 0) (λ v. vec_capacity v - vec_len v) vector fields metadata ids first calls answers last
+  pub made : AreMade vectors fields metadata ids first calls answers last
   pub left : last.state ≡ state
   pub run : IsRun (writer_in order new_writer) (ended_as calls answers) (writer_in order (state_seen state))
 
@@ -92,18 +92,18 @@ pub record HasNoRoomForMark (w : WriterSeen (Vec ℕ Global)) : Type 0 where
   pub full : vector_room w.device < 8
 
 -- Why a stream isn't finished.
-abbrev pub RefusesEnd : WriterSeen (Vec ℕ Global) → Fault → Type 0
-RefusesEnd w (State NotStarted) = w.state ≡ writer.New
-RefusesEnd w (State Failed) = w.state ≡ writer.Failed
-RefusesEnd w (Io e) = HasNoRoomForMark w
-RefusesEnd w _ = ⊥
+abbrev pub StreamEndCause : WriterSeen (Vec ℕ Global) → Fault → Type 0
+StreamEndCause w (State NotStarted) = w.state ≡ writer.New
+StreamEndCause w (State Failed) = w.state ≡ writer.Failed
+StreamEndCause w (Io e) = HasNoRoomForMark w
+StreamEndCause w _ = ⊥
 
 -- Why a round trip is refused: an allocation failed, or the memory had no room for the
 -- end-of-stream mark. Or the calls left a writer that isn't started or has failed. Reading
 -- what was written is never refused.
-abbrev pub RefusesRoundTrip : Endianness → FieldTrees → Pairs → IdTrees → List StreamCall → Fault → Type 0
-RefusesRoundTrip order fs es is calls Memory = Unit {0}
-RefusesRoundTrip order fs es is calls (Io e) = MayLeave order fs es is calls writer.Started HasNoRoomForMark
-RefusesRoundTrip order fs es is calls (State NotStarted) = MayLeave order fs es is calls writer.New (λ w. Unit {0})
-RefusesRoundTrip order fs es is calls (State Failed) = MayLeave order fs es is calls writer.Failed (λ w. Unit {0})
-RefusesRoundTrip order fs es is calls _ = ⊥
+abbrev pub RoundTripCause : Endianness → FieldTrees → Pairs → IdTrees → List StreamCall → Fault → Type 0
+RoundTripCause order fs es is calls Memory = Unit {0}
+RoundTripCause order fs es is calls (Io e) = MayLeave order fs es is calls writer.Started HasNoRoomForMark
+RoundTripCause order fs es is calls (State NotStarted) = MayLeave order fs es is calls writer.New (λ w. Unit {0})
+RoundTripCause order fs es is calls (State Failed) = MayLeave order fs es is calls writer.Failed (λ w. Unit {0})
+RoundTripCause order fs es is calls _ = ⊥

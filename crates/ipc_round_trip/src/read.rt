@@ -1,10 +1,7 @@
 //! Reads whole streams.
-ghost use Rattle.std.specs.Prelude.{◌≡◌, ◌<◌, ◌≤◌, false, IsTrue, IfErr, IfOk, vec_len};
-ghost use Rattle.ipc_devices.specs.Device.{Rises};
-ghost use Rattle.ipc_devices.specs.Faults.{OnIo, OwnFault};
-ghost use Rattle.ipc_readers.specs.Refusals.{IsStreamFault};
-ghost use Rattle.ipc_readers.specs.Streams.{device_of, is_over, metadata_of, request_of};
-ghost use Rattle.ipc_round_trip.specs.Reading.{GivesAll, PushesNext, ReadsStream, RefusesAhead};
+ghost use Rattle.std.specs.Prelude.{◌<◌, false, IsTrue, IfOk, vec_len};
+ghost use Rattle.ipc_round_trip.specs.Api.{ReadsChunks};
+ghost use Rattle.ipc_round_trip.specs.Reading.{PushesNext, ReadsStream};
 
 use ipc_base::chunk::Chunk;
 use ipc_devices::{Fault, MemFile, Reads};
@@ -29,7 +26,8 @@ fn push_next<R: Reads + Drop>(
     chunks: &mut Vec<Chunk<AnyArray>>,
 ) -> Result<bool, Fault>
     ensures more { IfOk result (λ b. IsTrue b → vec_len chunks.old < vec_len chunks.new) }
-    ensures memory { PushesNext R.known R.failures R.memory reader.old chunks.old.items result reader.new chunks.new.items }
+    ensures memory { PushesNext R.device reader.old
+        chunks.old.items result reader.new chunks.new.items }
 {
     match reader.next() {
         Some(Ok(StreamState::Some(chunk))) => {
@@ -46,13 +44,7 @@ pub(crate) fn read_chunks<R: Reads + Drop>(
     alloc: Global,
     reader: &mut StreamReader<R>,
 ) -> Result<Vec<Chunk<AnyArray>>, Fault>
-    ensures described { metadata_of reader.new ≡ metadata_of reader.old }
-    ensures monotone { R.failures (device_of reader.old) ≤ R.failures (device_of reader.new) }
-    ensures failed { OnIo result (Rises (R.failures (device_of reader.old)) (R.failures (device_of reader.new))) }
-    ensures memory { IsTrue R.known → is_over reader.old ≡ false
-        → IfOk result (λ chunks. GivesAll R.memory reader.old chunks.items reader.new) }
-    ensures refused { IsTrue R.known → is_over reader.old ≡ false → IfErr result (RefusesAhead R.memory reader.old) }
-    ensures only { IfErr result (λ e. OwnFault e (IsStreamFault (request_of reader.old) e)) }
+    ensures { ReadsChunks R.device reader.old result reader.new }
 {
     let mut chunks = Vec::new(alloc);
     while push_next(reader, &mut chunks)? {}

@@ -1,13 +1,10 @@
 //! What a stream writer wrote is what a stream reader reads.
 ghost use Rattle.std.specs.Prelude.{◌≡◌, ◌⊎◌, IfErr, IfOk, OnOk};
 ghost use Rattle.lower.specs.TypeViews.{fields_view, pairs_of};
-ghost use Rattle.ipc_model.specs.WriterStates.{answered};
-ghost use Rattle.ipc_model.specs.Writers.{taken};
-ghost use Rattle.ipc_schema_write.specs.WriterAnswers.{written_head_as};
-ghost use Rattle.ipc_write.specs.Calls.{ended_as};
 ghost use Rattle.ipc_write.specs.Writers.{chosen_ids, order_of, seen};
 ghost use Rattle.ipc_write.specs.declared.stream.WriterState.TheVariants.{Finished, Started};
-ghost use Rattle.ipc_round_trip.specs.RoundTrip.{ComesBack, EndsStream, FinishedLaw, OpenLaw, OpenReadableLaw, ReadableLaw, RefusesEnd, RefusesRoundTrip, RunsToStream};
+ghost use Rattle.ipc_round_trip.specs.Api.{MakesRoundTrip};
+ghost use Rattle.ipc_round_trip.specs.RoundTrip.{EndsStream, FinishedLaw, OpenLaw, OpenReadableLaw, ReadableLaw, StreamEndCause};
 
 use crate::read::{WholeStream, read_stream};
 use ipc_base::ipc::IpcField;
@@ -31,7 +28,7 @@ pub struct RoundTrip {
 fn ended(mut writer: StreamWriter<Vec<u8>>) -> Result<Vec<u8>, Fault>
     ensures ok { IfOk result (λ bytes. EndsStream (seen writer) bytes.items) }
     ensures state { OnOk result (((seen writer).state ≡ Started) ⊎ ((seen writer).state ≡ Finished)) }
-    ensures only { IfErr result (RefusesEnd (seen writer)) }
+    ensures only { IfErr result (StreamEndCause (seen writer)) }
 {
     match writer.state() {
         WriterState::Finished => Ok(writer.into_inner()),
@@ -62,15 +59,9 @@ pub fn round_trip(
     calls: &[StreamCall],
     write_options: WriteOptions,
 ) -> Result<RoundTrip, Fault>
-    ensures back { let fields = fields_view schema.now.fields.items in
-        IfOk result (λ r. ComesBack r.stream
-        (written_head_as (order_of write_options) fields (pairs_of schema.now.metadata.entries) (chosen_ids ipc_fields fields))
-        (taken (answered (ended_as calls.now r.answers.items)))) }
-    ensures run { let fields = fields_view schema.now.fields.items in
-        IfOk result (λ r. RunsToStream (order_of write_options) fields (pairs_of schema.now.metadata.entries) (chosen_ids ipc_fields fields)
-        calls.now r.answers.items) }
-    ensures only { let fields = fields_view schema.now.fields.items in
-        IfErr result (RefusesRoundTrip (order_of write_options) fields (pairs_of schema.now.metadata.entries) (chosen_ids ipc_fields fields) calls.now) }
+    ensures { let fields = fields_view schema.now.fields.items in
+        MakesRoundTrip (order_of write_options) fields (pairs_of schema.now.metadata.entries)
+        (chosen_ids ipc_fields fields) calls.now result }
 {
     let mut writer = StreamWriter::new(alloc, Vec::new(alloc), write_options);
     let answers = run_calls(alloc, &mut writer, schema, ipc_fields, calls)?;

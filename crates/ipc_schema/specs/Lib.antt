@@ -1,3 +1,4 @@
 pub mod Reading
 pub mod Views
 pub mod Pairs
+pub mod Api

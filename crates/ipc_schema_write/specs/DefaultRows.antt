@@ -3,7 +3,7 @@
 use Rattle.std.specs.Prelude.{◌≡◌, ℤ, pos, codes, Option, Some, None}
 use Rattle.lower.specs.TypeTrees.{plain, utf8, more_fields}
 use Rattle.ipc_base.specs.IdTrees.{ids, IdTrees, no_ids, more_ids}
-use Rattle.ipc_model.specs.WeightRows.{named, two_dictionaries, their_ids}
+use Rattle.ipc_model.specs.Samples.{named, two_dictionaries, their_ids}
 use Rattle.ipc_schema_write.specs.DefaultIds.{default_all, count_all}
 
 -- The ids 0 and 1, and this one below the second.

@@ -26,9 +26,11 @@ use std::alloc::Global;
 ///   one would get the id `i64::MAX`.
 /// - `Fault::Memory`: an allocation failed.
 pub fn default_ipc_fields(alloc: Global, fields: &[Field]) -> Result<Vec<IpcField>, Fault>
-    ensures ids { IfOk result (λ r. all_ids_view r.items ≡ default_all 0 (fields_view fields.now)) }
+    ensures ids { IfOk result
+        (λ r. all_ids_view r.items ≡ default_all 0 (fields_view fields.now)) }
     ensures fit { IfOk result (λ r. AllFit (fields_view fields.now) (all_ids_view r.items)) }
-    ensures only { RefusesCount result (2 ^ 63 ≤ length (fields_places (fields_view fields.now))) }
+    ensures only { RefusesCount result
+        (2 ^ 63 ≤ length (fields_places (fields_view fields.now))) }
 {
     let mut next = 0;
     let ids = ids_from(alloc, fields, &mut next)?;
@@ -43,7 +45,8 @@ pub fn default_ipc_fields(alloc: Global, fields: &[Field]) -> Result<Vec<IpcFiel
 /// - `Fault::Argument(ArgFault::NotWritable)`: there are more than 65,536 dictionary fields.
 /// - `Fault::Memory`: an allocation failed.
 pub fn writable_ipc_fields(alloc: Global, fields: &[Field]) -> Result<Vec<IpcField>, Fault>
-    ensures ids { IfOk result (λ r. all_ids_view r.items ≡ default_all 0 (fields_view fields.now)) }
+    ensures ids { IfOk result
+        (λ r. all_ids_view r.items ≡ default_all 0 (fields_view fields.now)) }
     ensures fit { IfOk result (λ r. AllFit (fields_view fields.now) (all_ids_view r.items)) }
     ensures only { IfErr result (λ e. (es : Pairs)
         → RefusesSchema e (fields_view fields.now) es (default_all 0 (fields_view fields.now))) }

@@ -16,9 +16,9 @@ use crate::weights::is_light;
 use crate::writable::are_writable;
 use ipc_base::fault::{ArgFault, Fault};
 use ipc_base::ipc::{IpcField, fits};
+use ipc_table_views::{Endianness, MetadataVersion};
 use ipc_tables::message::{Message, MessageHeader};
 use ipc_tables::schema as tables;
-use ipc_table_views::{Endianness, MetadataVersion};
 use lower::datatypes::counts::is_within_levels;
 use lower::datatypes::{Field, Schema};
 use std::alloc::Global;
@@ -125,8 +125,8 @@ pub fn schema_to_bytes(
     schema: &Schema,
     ipc_fields: &[IpcField],
 ) -> Result<Vec<u8>, Fault>
-    ensures { WritesSchema Little result (fields_view schema.now.fields.items) (pairs_of schema.now.metadata.entries)
-        (all_ids_view ipc_fields.now) }
+    ensures { WritesSchema Little result (fields_view schema.now.fields.items)
+        (pairs_of schema.now.metadata.entries) (all_ids_view ipc_fields.now) }
 {
     schema_to_bytes_as(alloc, schema, ipc_fields, true)
 }
@@ -142,8 +142,9 @@ pub fn schema_to_bytes_as(
     ipc_fields: &[IpcField],
     is_little_endian: bool,
 ) -> Result<Vec<u8>, Fault>
-    ensures { WritesSchema (byte_order is_little_endian) result (fields_view schema.now.fields.items)
-        (pairs_of schema.now.metadata.entries) (all_ids_view ipc_fields.now) }
+    ensures { WritesSchema (byte_order is_little_endian) result
+        (fields_view schema.now.fields.items) (pairs_of schema.now.metadata.entries)
+        (all_ids_view ipc_fields.now) }
 {
     let schema = serialize_schema(alloc, schema, ipc_fields, is_little_endian)?;
     let message = Message {

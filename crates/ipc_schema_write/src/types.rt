@@ -8,12 +8,14 @@ ghost use Rattle.ipc_model.specs.Schemas.{date_of, integers, interval_of, mode_o
 ghost use Rattle.ipc_model.specs.Writable.{IsShort, IsWritableType};
 ghost use Rattle.ipc_schema_write.specs.Meanings.{AreShortIds, IsEncodingTable, IsGroupTable, IsKeysTable, IsSingleTable, IsTypeTable, encoding_of};
 
+use ipc_table_views::{
+    DateUnit, IntervalUnit as IntervalTag, TimeUnit as UnitTag, UnionMode as ModeTag,
+};
 use ipc_tables::schema::{DictionaryEncoding, DictionaryKind};
 use ipc_tables::types::{
     Date, Decimal, Duration, FieldType, FixedSizeBinary, FixedSizeList, Int, Interval, Map, Time,
     Timestamp, Union,
 };
-use ipc_table_views::{DateUnit, IntervalUnit as IntervalTag, TimeUnit as UnitTag, UnionMode as ModeTag};
 use lower::datatypes::{DataType, IntegerType, IntervalUnit, TimeUnit, UnionMode};
 use std::alloc::AllocError;
 

@@ -91,7 +91,8 @@ fn weigh_features(features: &Option<Vec<Feature>>) -> Option<u64>
 ///   its value in bytes.
 /// - 8 for each feature.
 pub fn weigh_schema(schema: &Schema) -> Option<u64>
-    ensures { MatchOption result (2 ^ 64 ≤ schema_weight schema.now) (λ weight. weight ≡ schema_weight schema.now) }
+    ensures { MatchOption result (2 ^ 64 ≤ schema_weight schema.now)
+        (λ weight. weight ≡ schema_weight schema.now) }
 {
     let own = weigh_pairs(&schema.custom_metadata)?.checked_add(1024)?;
     let with_fields = own.checked_add(weigh_fields(&schema.fields)?)?;

@@ -20,7 +20,7 @@ use Rattle.ipc_schema_write.specs.WriterAnswers.{written_as}
 use Rattle.ipc_write.specs.Calls.{outcome, state_seen}
 use Rattle.ipc_write.specs.Meaning.{chunk_written}
 use Rattle.ipc_write.proofs.Vectors.{is_full}
-use Rattle.ipc_write.specs.Vectors.{HasNoRoom, vector_room}
+use Rattle.ipc_write.specs.Vectors.{HasNoRoom, vectors}
 use Rattle.ipc_write.specs.Writers.{fault_unless_started}
 use Rattle.ipc_write.specs.declared.stream.WriterState.{WriterState}
 use Rattle.ipc_write.specs.declared.stream.WriterState.TheVariants.{New, Started, Finished, Failed}
@@ -31,7 +31,7 @@ use Rattle.ipc_file_write.specs.WrittenFiles.{RefusesEnd}
 use Rattle.ipc_file_write.proofs.FileStates.{at_state}
 use Rattle.ipc_file_write.proofs.WrittenFiles.{refuses_end}
 use Rattle.ipc_sessions.specs.Sessions.{IsEndedFile}
-use Rattle.ipc_sessions.specs.Steps.{AreWritten, IsCreation, RefusesCreation, TakesChunks}
+use Rattle.ipc_sessions.specs.Steps.{AreWritten, IsCreation, CreationCause, TakesChunks}
 use Rattle.ipc_sessions.proofs.Ends.{front_before}
 
 -- All bytes of a vector are before its offset.
@@ -39,17 +39,17 @@ vector-before : (v : Vec ℕ Global) → before (vector v) ≡ v.items
 vector-before v = front_before (vector v) (omega (arith, v.ok)) ∙ take_all v.len v.items (omega (arith, v.ok))
 
 -- A writer that was started with empty memory.
-pub begun : (n p a : FileSeen (Vec ℕ Global)) → HasNothing vector n → n.device.items ≡ [] → Remains true vector n p → Remains true vector p a → Agrees vector a [] []
+pub begun : (n p a : FileSeen (Vec ℕ Global)) → HasNothing vectors n → n.device.items ≡ [] → Remains vectors n p → Remains vectors p a → Agrees vectors a [] []
 begun n p a nothing empty pairs_kept start_kept =
     let none : before (vector n.device) ≡ [] = vector-before n.device ∙ empty in
-    let first : Agrees vector n [] [] = subst (λ (xs : List ℕ). Agrees vector n xs []) none nothing.agrees in
+    let first : Agrees vectors n [] [] = subst (λ (xs : List ℕ). Agrees vectors n xs []) none nothing.agrees in
     start_kept.kept refl true [] [] (pairs_kept.kept refl true [] [] first)
 
--- ---- a new writer, its pairs, its start, its chunks and its end
+-- ---- a writer that was made, had its pairs set, was started, wrote chunks and finished its file
 
-module _ (n p a b c : FileSeen (Vec ℕ Global)) (v : Vec ℕ Global) (fs : FieldTrees) (es : Pairs) (is : IdTrees) (order : Endianness) (pairs : Pairs) (cs : List Chunk) (file : IsFileOf n fs es is order []) (nothing : HasNothing vector n)
-    (empty : n.device.items ≡ []) (paired : TakesPairs n p pairs) (pairs_kept : Remains true vector n p) (started : IsSameFile p a) (starts : StartsWith p a) (start_kept : Remains true vector p a) (took : TakesChunks true vector a b cs)
-    (finished : IsSameFile b c) (ends : EndsWith b c) (end_kept : Remains true vector b c) (handed : v ≡ c.device) where
+module _ (n p a b c : FileSeen (Vec ℕ Global)) (v : Vec ℕ Global) (fs : FieldTrees) (es : Pairs) (is : IdTrees) (order : Endianness) (pairs : Pairs) (cs : List Chunk) (file : IsFileOf n fs es is order []) (nothing : HasNothing vectors n)
+    (empty : n.device.items ≡ []) (paired : TakesPairs n p pairs) (pairs_kept : Remains vectors n p) (started : IsSameFile p a) (starts : StartsWith p a) (start_kept : Remains vectors p a) (took : TakesChunks vectors a b cs)
+    (finished : IsSameFile b c) (ends : EndsWith b c) (end_kept : Remains vectors b c) (handed : v ≡ c.device) where
   created-head : (head_of_file c).schema ≡ written_as order fs es is
   created-head =
       let orders : c.order ≡ order = finished.order ∙ took.same.order ∙ started.order ∙ paired.order ∙ file.order_is in
@@ -72,7 +72,7 @@ module _ (n p a b c : FileSeen (Vec ℕ Global)) (v : Vec ℕ Global) (fs : Fiel
 
 -- which calls were made
 abbrev pub creation : (n p a b : FileSeen (Vec ℕ Global)) (fs : FieldTrees) (es : Pairs) (is : IdTrees) (order : Endianness) (pairs : Pairs) (chunks : List (List AnyArray)) (answers : List (Result (Unit {0}) Fault)) → IsFileOf n fs es is order []
-    → TakesPairs n p pairs → IsSameFile p a → StartsWith p a → Agrees vector a [] [] → AreWritten true (λ v. 0) vector a chunks answers b → IsCreation fs es is order pairs chunks answers
+    → TakesPairs n p pairs → IsSameFile p a → StartsWith p a → Agrees vectors a [] [] → AreWritten vectors a chunks answers b → IsCreation fs es is order pairs chunks answers
 creation n p a b fs es is order pairs chunks answers file paired started starts empty writes = record {
   opened = a;
   started = starts.is;
@@ -90,7 +90,7 @@ creation n p a b fs es is order pairs chunks answers file paired started starts 
 
 -- ---- why none is created
 
-pub beginning_full : (a b : FileSeen (Vec ℕ Global)) (e : Fault) → SendsBeginning true true (λ v. 0) vector_room vector a (Err e) b → IsIo e → HasNoRoom a.device (IsBeginning a)
+pub beginning_full : (a b : FileSeen (Vec ℕ Global)) (e : Fault) → SendsBeginning vectors a (Err e) b → IsIo e → HasNoRoom a.device (IsBeginning a)
 beginning_full a b (faults.Io x) s io = record { bytes = s.bytes; are = s.is; full = is_full _ _ s.step.io.1 }
 beginning_full a b _ s io = absurd io
 
@@ -118,7 +118,7 @@ going-after c is_refused s t e h = elim h [
   | inr failed ↦ inr (is-failed t (e ∙ ap state_seen failed))
 ]
 
-going-last : (a b : FileSeen (Vec ℕ Global)) (chunks : List (List AnyArray)) (answers : List (Result (Unit {0}) Fault)) → AreWritten true (λ v. 0) vector a chunks answers b → IsGoing a.state → IsGoing b.state
+going-last : (a b : FileSeen (Vec ℕ Global)) (chunks : List (List AnyArray)) (answers : List (Result (Unit {0}) Fault)) → AreWritten vectors a chunks answers b → IsGoing a.state → IsGoing b.state
 going-last a b [] [] made h = subst (λ (x : FileSeen (Vec ℕ Global)). IsGoing x.state) (sym made) h
 going-last a b [] (r ∷ rs) made h = absurd made
 going-last a b (c ∷ cs) [] made h = absurd made
@@ -138,14 +138,14 @@ not-new s going e = elim going [
 
 module _ (fs : FieldTrees) (es : Pairs) (is : IdTrees) (order : Endianness) (ps : Pairs) (chunks : List (List AnyArray)) where
   -- the pairs
-  pub pairs_refused : (n : FileSeen (Vec ℕ Global)) (e : Fault) → n.state ≡ New → n.fields ≡ fs → n.metadata ≡ es → TakesNoPairs n ps e → RefusesCreation fs es is order ps chunks e
+  pub pairs_refused : (n : FileSeen (Vec ℕ Global)) (e : Fault) → n.state ≡ New → n.fields ≡ fs → n.metadata ≡ es → TakesNoPairs n ps e → CreationCause fs es is order ps chunks e
   pairs_refused n (faults.State x) new f m h = let none : fault_if_over n.state ≡ None = ap fault_if_over new in let no : None ≡ Some x = sym none ∙ h in absurd cc
   pairs_refused n (faults.Argument args.TooLarge) new f m h = inl (rw (f, m) at h)
   pairs_refused n (faults.Argument x) new f m h = absurd h
   pairs_refused n _ new f m h = absurd h
 
   -- the beginning
-  pub start_refused : (p : FileSeen (Vec ℕ Global)) (e : Fault) → p.state ≡ New → IsFileOf p fs es is order ps → MissesStart p e → (IsIo e → HasNoRoom p.device (IsBeginning p)) → RefusesCreation fs es is order ps chunks e
+  pub start_refused : (p : FileSeen (Vec ℕ Global)) (e : Fault) → p.state ≡ New → IsFileOf p fs es is order ps → MissesStart p e → (IsIo e → HasNoRoom p.device (IsBeginning p)) → CreationCause fs es is order ps chunks e
   start_refused p faults.Memory new file h full = tt
   start_refused p (faults.Io x) new file h full = inl (record { new = p; file = file; full = full tt })
   start_refused p (faults.State x) new file h full = absurd (h new)
@@ -158,7 +158,7 @@ module _ (fs : FieldTrees) (es : Pairs) (is : IdTrees) (order : Endianness) (ps 
     going : IsGoing creation.last.state
     going = going-last creation.opened creation.last chunks answers creation.writes (inl creation.started)
 
-    not-ended : (e : Fault) → RefusesEnd creation.last e → RefusesCreation fs es is order ps chunks e
+    not-ended : (e : Fault) → RefusesEnd creation.last e → CreationCause fs es is order ps chunks e
     not-ended faults.Memory h = tt
     not-ended (faults.Io x) h = inr (record { answers = answers; creation = creation; holds = h })
     not-ended (faults.Argument args.TooLarge) h = inr (record { answers = answers; creation = creation; holds = h })
@@ -167,5 +167,5 @@ module _ (fs : FieldTrees) (es : Pairs) (is : IdTrees) (order : Endianness) (ps 
     not-ended _ h = absurd h
 
     pub end_refused : (b : FileSeen (Vec ℕ Global)) (e : Fault) → StateComesFirst (fault_unless_started creation.last.state) creation.last (Err e) b → OrFails (RefusesFinish creation.last) e → MissesFinish creation.last e
-        → (IsIo e → HasNoRoom creation.last.device (IsEnding creation.last)) → RefusesCreation fs es is order ps chunks e
+        → (IsIo e → HasNoRoom creation.last.device (IsEnding creation.last)) → CreationCause fs es is order ps chunks e
     end_refused b e first only misses full = not-ended e (refuses_end creation.last b (not-finished creation.last.state going) e first only misses full)

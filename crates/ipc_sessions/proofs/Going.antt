@@ -6,7 +6,7 @@ use Rattle.std.specs.declared.alloc.Global.{Global}
 use Rattle.lower.specs.TypeTrees.{Pairs}
 use Rattle.lower_arrays.specs.declared.array.AnyArray.{AnyArray}
 use Rattle.ipc_devices.proofs.Claims.{claims_own, claims_through}
-use Rattle.ipc_devices.specs.Device.{Memory, Rises}
+use Rattle.ipc_devices.specs.Device.{Device, Rises}
 use Rattle.ipc_devices.specs.Faults.{IsIo, OnIo, OwnFault, UnlessIo}
 use Rattle.ipc_devices.specs.declared.fault.ArgFault.TheVariants.{FieldsShape, NoRecordBlocks, NotWritable, TooLarge}
 use Rattle.ipc_devices.specs.declared.fault.Fault.{Fault}
@@ -26,7 +26,7 @@ use Rattle.ipc_file_write.specs.Appends.{GoesOn, GoesOnAgain, GoesOnWith, HasNoD
 use Rattle.ipc_file_write.specs.FileWriters.{FileSeen, HoldsBytes, head_of_file}
 use Rattle.ipc_file_write.proofs.Appends.{inside_file, same_head, schema_same}
 use Rattle.ipc_file_write.proofs.FileHeads.{is_headed}
-use Rattle.ipc_sessions.specs.Sessions.{GainsChunks, AddsInTurn, CantGoOn, HasNoMetadata, IsEndedFile, IsForeignFile, IsOldFile, KeepsOld, RefusesNoOld, RefusesSession}
+use Rattle.ipc_sessions.specs.Sessions.{GainsChunks, AddsInTurn, ResumeCause, MetadataCause, IsEndedFile, IsForeignFile, IsOldFile, KeepsOld, OldFileCause, OpeningCause}
 use Rattle.ipc_sessions.specs.Steps.{AreSessions, IsSessionOn, Leaves}
 
 -- ---- the file that it makes
@@ -36,71 +36,71 @@ module _ (is_stream : Bool) (bytes : List ℕ) where
   ended-as s t ps qs cs ds e f g h =
       subst (λ (x : List Chunk). IsEndedFile is_stream bytes t qs x) g (subst (λ (x : Pairs). IsEndedFile is_stream bytes t x cs) f (subst (λ (x : Schema). IsEndedFile is_stream bytes x ps cs) e h))
 
-module _ {W : Type 0} (known : Bool) (memory : W → Memory) (m : FileMetadata) (device : W) (w : FileSeen W) (c : W) (cs : List Chunk) (g : GoesOn known memory m device w) (k : IsTrue known) (is : metadata_of (memory device).whole ≡ Some m) where
-  stands-inside : (memory w.device).place ≤ length (memory w.device).whole
+module _ {W : Type 0} (d : Device W) (m : FileMetadata) (device : W) (w : FileSeen W) (c : W) (cs : List Chunk) (g : GoesOn d m device w) (k : IsTrue d.is_memory) (is : metadata_of (d.memory device).whole ≡ Some m) where
+  stands-inside : (d.memory w.device).place ≤ length (d.memory w.device).whole
   stands-inside =
       let at = g.stands k in
-      let inside = inside_file m (memory device).whole (is_headed (memory device).whole m is) in
+      let inside = inside_file m (d.memory device).whole (is_headed (d.memory device).whole m is) in
       omega (arith, at.place, ap length at.whole, inside)
 
-  no-more-there : NoMore (memory w.device) w.size
+  no-more-there : NoMore (d.memory w.device) w.size
   no-more-there =
       let at = g.stands k in
-      let headed = is_headed (memory device).whole m is in
-      omega (arith, at.place, ap length at.whole, length-drop (memory w.device).place (memory w.device).whole, g.size, headed.size)
+      let headed = is_headed (d.memory device).whole m is in
+      omega (arith, at.place, ap length at.whole, length-drop (d.memory w.device).place (d.memory w.device).whole, g.size, headed.size)
 
-  module _ (ended : (is_stream : Bool) (before : List Chunk) → HoldsBytes is_stream (memory w.device) w [] before → (memory w.device).place ≤ length (memory w.device).whole → NoMore (memory w.device) w.size
-      → IsEndedFile is_stream (memory c).whole (head_of_file w).schema w.pairs (before ++ cs)) where
+  module _ (ended : (is_stream : Bool) (before : List Chunk) → HoldsBytes is_stream (d.memory w.device) w [] before → (d.memory w.device).place ≤ length (d.memory w.device).whole → NoMore (d.memory w.device) w.size
+      → IsEndedFile is_stream (d.memory c).whole (head_of_file w).schema w.pairs (before ++ cs)) where
     -- After a file that another session left.
-    from-ended : GoesOnAgain known memory m device w → (is_stream : Bool) (schema : Schema) (pairs : Pairs) (before : List Chunk) → IsEndedFile is_stream (memory device).whole schema pairs before
-        → IsEndedFile is_stream (memory c).whole schema pairs (before ++ cs)
+    from-ended : GoesOnAgain d m device w → (is_stream : Bool) (schema : Schema) (pairs : Pairs) (before : List Chunk) → IsEndedFile is_stream (d.memory device).whole schema pairs before
+        → IsEndedFile is_stream (d.memory c).whole schema pairs (before ++ cs)
     from-ended again is_stream schema pairs before h =
-        let head = same_head known memory m device w h.writer is_stream before g k is h.whole in
+        let head = same_head d m device w h.writer is_stream before g k is h.whole in
         let metadata = some-same _ m (sym h.whole.file.means.metadata ∙ is) in
         let same : w.pairs ≡ pairs = g.pairs ∙ sym (ap (λ (x : FileMetadata). x.pairs) metadata) ∙ h.pairs_are in
-        ended-as is_stream (memory c).whole (head_of_file w).schema schema w.pairs pairs (before ++ cs) (before ++ cs) (ap (λ (x : Head). x.schema) (sym head) ∙ h.schema_is) same refl
+        ended-as is_stream (d.memory c).whole (head_of_file w).schema schema w.pairs pairs (before ++ cs) (before ++ cs) (ap (λ (x : Head). x.schema) (sym head) ∙ h.schema_is) same refl
         (ended is_stream before (again k is is_stream h.writer before h.whole) stands-inside no-more-there)
 
     -- After a file that another program wrote.
-    from-foreign : GoesOnWith known memory m device w → (schema : Schema) (pairs : Pairs) (before : List Chunk) → IsForeignFile false (memory device).whole schema pairs before
-        → IsEndedFile false (memory c).whole schema pairs (before ++ cs)
+    from-foreign : GoesOnWith d m device w → (schema : Schema) (pairs : Pairs) (before : List Chunk) → IsForeignFile false (d.memory device).whole schema pairs before
+        → IsEndedFile false (d.memory c).whole schema pairs (before ++ cs)
     from-foreign gives schema pairs before h =
         let metadata : h.metadata ≡ m = some-same h.metadata m (sym h.metadata_is ∙ is) in
-        let means : MeansBefore m (memory device).whole h.known h.chunks = subst (λ (x : FileMetadata). MeansBefore x (memory device).whole h.known h.chunks) metadata h.means in
+        let means : MeansBefore m (d.memory device).whole h.known h.chunks = subst (λ (x : FileMetadata). MeansBefore x (d.memory device).whole h.known h.chunks) metadata h.means in
         let schema_is : (head_of_file w).schema ≡ schema = schema_same m w g.order g.fields g.metadata g.ids ∙ sym (ap (λ (x : FileMetadata). normal_schema x.schema) metadata) ∙ h.schema_is in
         let same : w.pairs ≡ pairs = g.pairs ∙ sym (ap (λ (x : FileMetadata). x.pairs) metadata) ∙ h.pairs_are in
-        ended-as false (memory c).whole (head_of_file w).schema schema w.pairs pairs (map normal_chunk h.chunks ++ cs) (before ++ cs) schema_is same (ap (λ (xs : List Chunk). xs ++ cs) h.chunks_are)
+        ended-as false (d.memory c).whole (head_of_file w).schema schema w.pairs pairs (map normal_chunk h.chunks ++ cs) (before ++ cs) schema_is same (ap (λ (xs : List Chunk). xs ++ cs) h.chunks_are)
         (ended false (map normal_chunk h.chunks) (gives k is h.known h.chunks means) stands-inside no-more-there)
 
-    foreign-alone : (is_stream : Bool) (schema : Schema) (pairs : Pairs) (before : List Chunk) → is_stream ≡ false → IsForeignFile is_stream (memory device).whole schema pairs before
-        → GoesOnWith known memory m device w → IsEndedFile is_stream (memory c).whole schema pairs (before ++ cs)
+    foreign-alone : (is_stream : Bool) (schema : Schema) (pairs : Pairs) (before : List Chunk) → is_stream ≡ false → IsForeignFile is_stream (d.memory device).whole schema pairs before
+        → GoesOnWith d m device w → IsEndedFile is_stream (d.memory c).whole schema pairs (before ++ cs)
     foreign-alone is_stream schema pairs before e h gives =
-        subst (λ (b : Bool). IsEndedFile b (memory c).whole schema pairs (before ++ cs)) (sym e)
-        (from-foreign gives schema pairs before (subst (λ (b : Bool). IsForeignFile b (memory device).whole schema pairs before) e h))
+        subst (λ (b : Bool). IsEndedFile b (d.memory c).whole schema pairs (before ++ cs)) (sym e)
+        (from-foreign gives schema pairs before (subst (λ (b : Bool). IsForeignFile b (d.memory device).whole schema pairs before) e h))
 
-    one-more : GoesOnAgain known memory m device w → GoesOnWith known memory m device w → GainsChunks (memory device).whole (memory c).whole cs
+    one-more : GoesOnAgain d m device w → GoesOnWith d m device w → GainsChunks (d.memory device).whole (d.memory c).whole cs
     one-more again gives is_stream schema pairs before old =
         elim old [
           | inl h ↦ from-ended again is_stream schema pairs before h
           | inr h ↦ foreign-alone is_stream schema pairs before h.no_stream h gives
         ]
 
-  pub adds_ok : (r : Result (Unit {0}) Fault) → Leaves known memory w c r cs → GoesOnAgain known memory m device w → GoesOnWith known memory m device w → OnOk r (GainsChunks (memory device).whole (memory c).whole cs)
+  pub adds_ok : (r : Result (Unit {0}) Fault) → Leaves d w c r cs → GoesOnAgain d m device w → GoesOnWith d m device w → OnOk r (GainsChunks (d.memory device).whole (d.memory c).whole cs)
   adds_ok (Ok x) l again gives = one-more (l.ended k) again gives
   adds_ok (Err e) l again gives = tt
 
   -- What stays, whatever the calls return.
-  pub keeps_old : (r : Result (Unit {0}) Fault) → Leaves known memory w c r cs → KeepsOld m (memory device).whole (memory c).whole
+  pub keeps_old : (r : Result (Unit {0}) Fault) → Leaves d w c r cs → KeepsOld m (d.memory device).whole (d.memory c).whole
   keeps_old r l =
       let p = goes_on m in
       let at = g.stands k in
       let onward = l.onward k stands-inside in
-      let same : take p (memory c).whole ≡ take p (memory device).whole =
-      ap (λ (n : ℕ). take n (memory c).whole) (sym at.place) ∙ onward.kept ∙ ap (λ (n : ℕ). take n (memory w.device).whole) at.place ∙ ap (take p) at.whole in
+      let same : take p (d.memory c).whole ≡ take p (d.memory device).whole =
+      ap (λ (n : ℕ). take n (d.memory c).whole) (sym at.place) ∙ onward.kept ∙ ap (λ (n : ℕ). take n (d.memory w.device).whole) at.place ∙ ap (take p) at.whole in
       record {
         longer = omega (arith, ap length at.whole, onward.longer);
         kept = same;
-        gives = λ found before means. stay_law m (memory device).whole (memory c).whole found before same means;
+        gives = λ found before means. stay_law m (d.memory device).whole (d.memory c).whole found before same means;
       }
 
 -- ---- which are refused
@@ -135,7 +135,7 @@ old-dictionaries m bytes is_stream schema pairs before is old =
           (h.known, subst (λ (x : FileMetadata). file_dictionaries x bytes ≡ Some h.known) metadata whole.dictionaries)
     ]
 
-pub refuses_no_old : (m : FileMetadata) (bytes : List ℕ) (known : Bool) (e : Fault) → IsTrue known → metadata_of bytes ≡ Some m → RefusesFile known m bytes e → RefusesNoOld m bytes e
+pub refuses_no_old : (m : FileMetadata) (bytes : List ℕ) (known : Bool) (e : Fault) → IsTrue known → metadata_of bytes ≡ Some m → RefusesFile known m bytes e → OldFileCause m bytes e
 refuses_no_old m bytes known e k is refused =
     own-two e (RefusesToGoOn m e ⊎ HasNoDictionaries known m bytes e) (MayGoOn m → RefusesToGoOn m e → ⊥) _
     (λ reason not may is_stream schema pairs before old.
@@ -171,7 +171,7 @@ refuses-read known old read m e same =
       })
     ])
 
-pub refused_as_read : (known : Bool) (old read : List ℕ) (m : FileMetadata) (e : Fault) → (IsTrue known → read ≡ old) → (IsTrue known → metadata_of old ≡ Some m) → RefusesFile known m read e → CantGoOn known old e
+pub refused_as_read : (known : Bool) (old read : List ℕ) (m : FileMetadata) (e : Fault) → (IsTrue known → read ≡ old) → (IsTrue known → metadata_of old ≡ Some m) → RefusesFile known m read e → ResumeCause known old e
 refused_as_read known old read m e same is refused = record { metadata = m; is = is; refused = refuses-read known old read m e same refused }
 
 -- a claim that follows from three
@@ -182,9 +182,9 @@ own-three _ known P Q R S f p q r = f p q r
 
 -- A file that has no metadata, for this reason.
 pub refused_unread : (known : Bool) (old mid : List ℕ) (place : ℕ) (e : Fault) → (IsTrue known → mid ≡ old) → (IsTrue known → place ≡ 0) → OwnFault e (FileFault e) → (IsTrue known → OwnFault e (metadata_of mid ≡ None))
-    → (IsTrue known → OwnFault e (FileReason place mid e)) → RefusesSession known old e
+    → (IsTrue known → OwnFault e (FileReason place mid e)) → OpeningCause known old e
 refused_unread known old mid place e same at =
-    own-three e known (FileFault e) (metadata_of mid ≡ None) (FileReason place mid e) (HasNoMetadata known old e ⊎ CantGoOn known old e)
+    own-three e known (FileFault e) (metadata_of mid ≡ None) (FileReason place mid e) (MetadataCause known old e ⊎ ResumeCause known old e)
     (λ kind none reason. inl (record {
       kind = kind;
       none = λ k. ap metadata_of (sym (same k)) ∙ none k;
@@ -194,14 +194,14 @@ refused_unread known old mid place e same at =
 -- ---- sessions that are refused
 
 -- no old file is refused that may be appended to
-pub session_refuses_no_old : (known : Bool) (bytes : List ℕ) (e : Fault) → IsTrue known → RefusesSession known bytes e → (m : FileMetadata) → metadata_of bytes ≡ Some m → RefusesNoOld m bytes e
+pub session_refuses_no_old : (known : Bool) (bytes : List ℕ) (e : Fault) → IsTrue known → OpeningCause known bytes e → (m : FileMetadata) → metadata_of bytes ≡ Some m → OldFileCause m bytes e
 session_refuses_no_old known bytes e k refused m is =
-    claims_own e (HasNoMetadata known bytes e ⊎ CantGoOn known bytes e) _
+    claims_own e (MetadataCause known bytes e ⊎ ResumeCause known bytes e) _
     (λ why. elim why [
       | inl none ↦ let both : None ≡ Some m = sym (none.none k) ∙ is in absurd cc
       | inr cant ↦
           let same = some-same cant.metadata m (sym (cant.is k) ∙ is) in
-          subst (λ (x : FileMetadata). RefusesNoOld x bytes e) same (refuses_no_old cant.metadata bytes known e k (cant.is k) cant.refused)
+          subst (λ (x : FileMetadata). OldFileCause x bytes e) same (refuses_no_old cant.metadata bytes known e k (cant.is k) cant.refused)
     ])
     refused
 
@@ -246,11 +246,11 @@ in_turn_more n n' one old mid new cs ds f g =
 
 -- ---- lists of sessions
 
-module _ {W : Type 0} (known grows : Bool) (failures room : W → ℕ) (memory : W → Memory) where
+module _ {W : Type 0} (d : Device W) where
   -- one session more
-  pub sessions_more : (a m b : W) (cs : List (Vec (List AnyArray) Global)) (rs : List (Vec (Result (Unit {0}) Fault) Global)) (c : Vec (List AnyArray) Global) (r : Vec (Result (Unit {0}) Fault) Global) → AreSessions known grows failures room memory a cs rs m
-      → IsSessionOn known grows failures room memory m c.items r.items (Ok tt) b → AreSessions known grows failures room memory a (cs ++ c ∷ []) (rs ++ r ∷ []) b
-  sessions_more a m b [] [] c r h last = (b, (subst (λ (d : W). IsSessionOn known grows failures room memory d c.items r.items (Ok tt) b) h last, refl))
+  pub sessions_more : (a m b : W) (cs : List (Vec (List AnyArray) Global)) (rs : List (Vec (Result (Unit {0}) Fault) Global)) (c : Vec (List AnyArray) Global) (r : Vec (Result (Unit {0}) Fault) Global) → AreSessions d a cs rs m
+      → IsSessionOn d m c.items r.items (Ok tt) b → AreSessions d a (cs ++ c ∷ []) (rs ++ r ∷ []) b
+  sessions_more a m b [] [] c r h last = (b, (subst (λ (y : W). IsSessionOn d y c.items r.items (Ok tt) b) h last, refl))
   sessions_more a m b [] (x ∷ rs) c r h last = absurd h
-  sessions_more a m b (d ∷ cs) [] c r h last = absurd h
-  sessions_more a m b (d ∷ cs) (x ∷ rs) c r h last = (h.0, (h.1.0, sessions_more h.0 m b cs rs c r h.1.1 last))
+  sessions_more a m b (y ∷ cs) [] c r h last = absurd h
+  sessions_more a m b (y ∷ cs) (x ∷ rs) c r h last = (h.0, (h.1.0, sessions_more h.0 m b cs rs c r h.1.1 last))

@@ -92,26 +92,26 @@ pub record KeepsOld (m : FileMetadata) (old new : List ℕ) : Type 0 where
   pub gives : (known : Dictionaries) (cs : List Chunk) → MeansBefore m old known cs → BlocksMean m (all_of new) known cs
 
 -- If a file that can be appended to is refused, the error is one of allocation or of the device.
-abbrev pub RefusesNoOld : FileMetadata → List ℕ → Fault → Type 0
-RefusesNoOld m old e =
+abbrev pub OldFileCause : FileMetadata → List ℕ → Fault → Type 0
+OldFileCause m old e =
     OwnFault e (MayGoOn m → (is_stream : Bool) (schema : Schema) (pairs : Pairs) (before : List Chunk) → IsOldFile is_stream old schema pairs before → ⊥)
 
 -- The file has metadata, and can't be appended to.
-pub record CantGoOn (known : Bool) (bytes : List ℕ) (e : Fault) : Type 0 where
+pub record ResumeCause (known : Bool) (bytes : List ℕ) (e : Fault) : Type 0 where
   pub metadata : FileMetadata
   pub is : IsTrue known → metadata_of bytes ≡ Some metadata
   pub refused : RefusesFile known metadata bytes e
 
 -- The file has no metadata, for this reason.
-pub record HasNoMetadata (known : Bool) (bytes : List ℕ) (e : Fault) : Type 0 where
+pub record MetadataCause (known : Bool) (bytes : List ℕ) (e : Fault) : Type 0 where
   pub kind : FileFault e
   pub none : IsTrue known → metadata_of bytes ≡ None
   pub reason : IsTrue known → FileReason 0 bytes e
 
 -- Why a session can't begin on a file of these bytes: it has no metadata, or can't be appended to.
 -- Nothing is claimed of errors of allocation and of the device.
-abbrev pub RefusesSession : Bool → List ℕ → Fault → Type 0
-RefusesSession known bytes e = OwnFault e (HasNoMetadata known bytes e ⊎ CantGoOn known bytes e)
+abbrev pub OpeningCause : Bool → List ℕ → Fault → Type 0
+OpeningCause known bytes e = OwnFault e (MetadataCause known bytes e ⊎ ResumeCause known bytes e)
 
 -- ---- reading a file that a session left
 

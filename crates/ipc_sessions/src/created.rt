@@ -1,12 +1,9 @@
 //! Files in memory that are created in one session and appended to in later ones.
-ghost use Rattle.std.specs.Prelude.{◌++◌, IfErr, IfOk, not, true};
+ghost use Rattle.std.specs.Prelude.{not};
 ghost use Rattle.lower.specs.TypeViews.{fields_view, pairs_of};
-ghost use Rattle.ipc_devices.specs.Faults.{IsIo};
-ghost use Rattle.ipc_schema_write.specs.WriterAnswers.{byte_order, written_as};
+ghost use Rattle.ipc_schema_write.specs.WriterAnswers.{byte_order};
 ghost use Rattle.ipc_write.specs.Writers.{chosen_ids};
-ghost use Rattle.ipc_file_write.specs.Calls.{IsWrittenFile};
-ghost use Rattle.ipc_sessions.specs.Sessions.{IsEndedFile, all_taken_of, taken_of};
-ghost use Rattle.ipc_sessions.specs.Steps.{AreAllSessions, FailsSessions, IsCreation, RefusesCreation, RefusesSessions};
+ghost use Rattle.ipc_sessions.specs.Api.{CreatesFile, WritesSessions};
 
 use crate::sessions::{Sessions, run_sessions, write_chunks};
 use ipc_base::chunk::Chunk;
@@ -52,13 +49,10 @@ pub fn create_file(
     options: WriteOptions,
     chunks: &[Chunk<AnyArray>],
 ) -> Result<WrittenFile, Fault>
-    ensures made { let fields = fields_view schema.fields.items in
-        IfOk result (λ f. IsCreation fields (pairs_of schema.metadata.entries) (chosen_ids ipc_fields fields) (byte_order (not options.big_endian)) (pairs_of custom_metadata.entries) chunks.now f.answers.items) }
-    ensures file { let fields = fields_view schema.fields.items in
-        IfOk result (λ f. IsEndedFile true f.bytes.items (written_as (byte_order (not options.big_endian)) fields (pairs_of schema.metadata.entries) (chosen_ids ipc_fields fields))
-        (pairs_of custom_metadata.entries) (taken_of chunks.now f.answers.items)) }
-    ensures only { let fields = fields_view schema.fields.items in
-        IfErr result (RefusesCreation fields (pairs_of schema.metadata.entries) (chosen_ids ipc_fields fields) (byte_order (not options.big_endian)) (pairs_of custom_metadata.entries) chunks.now) }
+    ensures { let fields = fields_view schema.fields.items in
+        CreatesFile fields (pairs_of schema.metadata.entries) (chosen_ids ipc_fields fields)
+        (byte_order (not options.big_endian)) (pairs_of custom_metadata.entries)
+        chunks.now result }
 {
     let mut writer = FileWriter::new(alloc, Vec::new(alloc), schema, ipc_fields, options)?;
     writer.set_custom_metadata(custom_metadata)?;
@@ -93,18 +87,10 @@ pub fn write_sessions(
     first: &[Chunk<AnyArray>],
     later: &[Vec<Chunk<AnyArray>>],
 ) -> Result<WrittenSessions, Fault>
-    ensures made { let fields = fields_view schema.fields.items in
-        IfOk result (λ f. AreAllSessions fields (pairs_of schema.metadata.entries) (chosen_ids ipc_fields fields) (byte_order (not options.big_endian)) (pairs_of custom_metadata.entries)
-        first.now f.first.items later.now f.later.items f.bytes.items) }
-    ensures reads { let fields = fields_view schema.fields.items in
-        IfOk result (λ f. IsWrittenFile f.bytes.items (byte_order (not options.big_endian)) fields (pairs_of schema.metadata.entries) (chosen_ids ipc_fields fields)
-        (pairs_of custom_metadata.entries) (taken_of first.now f.first.items ++ all_taken_of later.now f.later.items)) }
-    ensures only { let fields = fields_view schema.fields.items in
-        IfErr result (RefusesSessions fields (pairs_of schema.metadata.entries) (chosen_ids ipc_fields fields) (byte_order (not options.big_endian)) (pairs_of custom_metadata.entries) first.now later.now) }
-    ensures failed { let fields = fields_view schema.fields.items in
-        IfErr result (λ e. IsIo e → FailsSessions fields (pairs_of schema.metadata.entries)
-        (chosen_ids ipc_fields fields) (byte_order (not options.big_endian))
-        (pairs_of custom_metadata.entries) first.now later.now e) }
+    ensures { let fields = fields_view schema.fields.items in
+        WritesSessions fields (pairs_of schema.metadata.entries) (chosen_ids ipc_fields fields)
+        (byte_order (not options.big_endian)) (pairs_of custom_metadata.entries)
+        first.now later.now result }
 {
     let created = create_file(alloc, schema, ipc_fields, custom_metadata, options, first)?;
     let WrittenFile { bytes, answers } = created;

@@ -1,14 +1,14 @@
 //! Sessions on existing files: chunks are appended, and the file is finished again.
-ghost use Rattle.std.specs.Prelude.{◌≡◌, length, IfErr, IfOk, IsTrue, Ok, OnErr, OnOk, Some};
+ghost use Rattle.std.specs.Prelude.{◌≡◌, IfErr, IfOk, IsTrue, Ok, OnErr};
 ghost use Rattle.ipc_devices.specs.Device.{Rises};
 ghost use Rattle.ipc_devices.specs.Faults.{IsIo, OnIo, OwnFault, UnlessIo};
 ghost use Rattle.ipc_devices.specs.declared.fault.Fault.TheVariants.{Memory};
 ghost use Rattle.ipc_files.specs.Footers.{file_seen};
-ghost use Rattle.ipc_model.specs.Files.{FileMetadata as FileMeaning, metadata_of};
-ghost use Rattle.ipc_file_write.specs.Appends.{DeviceFails, RefusesFile, resumed};
+ghost use Rattle.ipc_file_write.specs.Appends.{resumed};
 ghost use Rattle.ipc_file_write.specs.FileWriters.{seen};
-ghost use Rattle.ipc_sessions.specs.Sessions.{GainsChunks, AddsInTurn, KeepsOld, RefusesNoOld, RefusesSession, all_taken_of, taken_of};
-ghost use Rattle.ipc_sessions.specs.Steps.{AreSessions, AreWritten, EndsSession, FailsInTurn, FailsWhole, IsSession, IsSessionOn, RefusesInTurn, RefusesWhole, ResumesFile, TakesChunks, WritesNext};
+ghost use Rattle.ipc_sessions.specs.Api.{AppendsSession, AppendsToFile, RunsSessions};
+ghost use Rattle.ipc_sessions.specs.Sessions.{GainsChunks, OpeningCause, taken_of};
+ghost use Rattle.ipc_sessions.specs.Steps.{AreWritten, EndsSession, FailsWhole, IsSessionOn, WholeSessionCause, ResumesFile, TakesChunks, WritesNext};
 
 use ipc_base::chunk::Chunk;
 use ipc_devices::{Fault, Reads, Seeks, Writes};
@@ -43,8 +43,7 @@ fn write_chunk<W: Writes + Drop>(
     writer: &mut FileWriter<W>,
     chunk: &Chunk<AnyArray>,
 ) -> Result<(), Fault>
-    ensures { WritesNext W.known W.failures W.memory (seen writer.old) chunk.now result
-        (seen writer.new) }
+    ensures { WritesNext W.device (seen writer.old) chunk.now result (seen writer.new) }
 {
     writer.write(chunk, None)
 }
@@ -60,10 +59,11 @@ pub fn write_chunks<W: Writes + Drop>(
     writer: &mut FileWriter<W>,
     chunks: &[Chunk<AnyArray>],
 ) -> Result<Vec<Result<(), Fault>>, AllocError>
-    ensures made { IfOk result (λ answers. AreWritten W.known W.failures W.memory
+    ensures made { IfOk result (λ answers. AreWritten W.device
         (seen writer.old) chunks.now answers.items (seen writer.new)) }
     ensures nothing { OnErr result (seen writer.new ≡ seen writer.old) }
-    ensures takes { IfOk result (λ answers. TakesChunks W.known W.memory (seen writer.old) (seen writer.new) (taken_of chunks.now answers.items)) }
+    ensures takes { IfOk result (λ answers. TakesChunks W.device (seen writer.old)
+        (seen writer.new) (taken_of chunks.now answers.items)) }
 {
     // Room for all results is allocated here, so that none is lost after writing.
     let mut answers = Vec::with_capacity(alloc, chunks.len())?;
@@ -79,7 +79,9 @@ fn end_session<W: Writes + Drop>(
     mut writer: FileWriter<W>,
     chunks: &[Chunk<AnyArray>],
 ) -> Result<Session<W>, Fault>
-    ensures made { IfOk result (λ session. EndsSession W.known W.grows W.failures W.room W.memory (seen writer) chunks.now session.answers.items session.end session.device) }
+    ensures made { IfOk result
+        (λ session. EndsSession W.device (seen writer) chunks.now session.answers.items session.end
+        session.device) }
     ensures only { IfErr result (λ e. e ≡ Memory) }
 {
     let answers = write_chunks(alloc, &mut writer, chunks)?;
@@ -103,12 +105,15 @@ fn end_session<W: Writes + Drop>(
 /// Those of [`read_file_metadata`] and of [`prepare`]; `Io` exactly if a call of the device failed.
 /// After an error the device may be at any offset.
 pub fn prepare_session<W: Reads + Seeks>(alloc: Global, device: &mut W) -> Result<Prepared, Fault>
-    ensures ok { IfOk result (λ prepared.
-        ResumesFile W.known W.failures W.memory device.old (resumed device.new prepared)) }
-    ensures only { IfErr result (RefusesSession W.known (W.memory device.old).whole) }
-    ensures whole { IsTrue W.still → (W.memory device.new).whole ≡ (W.memory device.old).whole }
-    ensures failed { OnIo result (Rises (W.failures device.old) (W.failures device.new)) }
-    ensures told { UnlessIo result (W.failures device.new ≡ W.failures device.old) }
+    ensures ok { IfOk result (λ prepared. ResumesFile W.device device.old
+        (resumed device.new prepared)) }
+    ensures only { IfErr result
+        (OpeningCause W.device.is_memory (W.device.memory device.old).whole) }
+    ensures whole { IsTrue W.device.is_read_only
+        → (W.device.memory device.new).whole ≡ (W.device.memory device.old).whole }
+    ensures failed { OnIo result
+        (Rises (W.device.failures device.old) (W.device.failures device.new)) }
+    ensures told { UnlessIo result (W.device.failures device.new ≡ W.device.failures device.old) }
 {
     device.seek_to(0)?;
     let metadata = read_file_metadata(alloc, device)?;
@@ -135,15 +140,7 @@ pub fn append_to_file<W: Reads + Writes + Seeks + Drop>(
     metadata: FileMetadata,
     chunks: &[Chunk<AnyArray>],
 ) -> Result<Session<W>, Fault>
-    ensures adds { IsTrue W.known → metadata_of (W.memory device).whole ≡ Some (file_seen metadata)
-        → IfOk result (λ session. OnOk session.end (GainsChunks (W.memory device).whole (W.memory session.device).whole (taken_of chunks.now session.answers.items))) }
-    ensures keeps { IsTrue W.known → metadata_of (W.memory device).whole ≡ Some (file_seen metadata)
-        → IfOk result (λ session. KeepsOld (file_seen metadata) (W.memory device).whole (W.memory session.device).whole) }
-    ensures made { IfOk result (λ session. IsSession W.known W.grows W.failures W.room W.memory (file_seen metadata) device chunks.now session.answers.items session.end session.device) }
-    ensures always { IsTrue W.known → metadata_of (W.memory device).whole ≡ Some (file_seen metadata)
-        → IfErr result (RefusesNoOld (file_seen metadata) (W.memory device).whole) }
-    ensures only { IfErr result (RefusesFile W.known (file_seen metadata) (W.memory device).whole) }
-    ensures failed { OnIo result (DeviceFails W.failures device) }
+    ensures { AppendsToFile W.device (file_seen metadata) device chunks.now result }
 {
     let prepared = prepare(alloc, &mut device, metadata)?;
     let writer = FileWriter::resume(device, prepared);
@@ -163,14 +160,7 @@ pub fn append_session<W: Reads + Writes + Seeks + Drop>(
     mut device: W,
     chunks: &[Chunk<AnyArray>],
 ) -> Result<Session<W>, Fault>
-    ensures adds { IsTrue W.known → IfOk result (λ session. OnOk session.end (GainsChunks (W.memory device).whole (W.memory session.device).whole (taken_of chunks.now session.answers.items))) }
-    ensures keeps { IsTrue W.known → IfOk result (λ session. (m : FileMeaning) → metadata_of (W.memory device).whole ≡ Some m
-        → KeepsOld m (W.memory device).whole (W.memory session.device).whole) }
-    ensures made { IfOk result (λ session. IsSessionOn W.known W.grows W.failures W.room W.memory device chunks.now session.answers.items session.end session.device) }
-    ensures always { IsTrue W.known → IfErr result (λ e. (m : FileMeaning) → metadata_of (W.memory device).whole ≡ Some m
-        → RefusesNoOld m (W.memory device).whole e) }
-    ensures only { IfErr result (RefusesSession W.known (W.memory device).whole) }
-    ensures failed { OnIo result (DeviceFails W.failures device) }
+    ensures { AppendsSession W.device device chunks.now result }
 {
     let prepared = prepare_session(alloc, &mut device)?;
     let writer = FileWriter::resume(device, prepared);
@@ -184,11 +174,15 @@ fn whole_session<W: Reads + Writes + Seeks + Drop>(
     device: W,
     chunks: &[Chunk<AnyArray>],
 ) -> Result<(W, Vec<Result<(), Fault>>), Fault>
-    ensures adds { IsTrue W.known → IfOk result (λ left. GainsChunks (W.memory device).whole (W.memory left.0).whole (taken_of chunks.now left.1.items)) }
-    ensures made { IfOk result (λ left. IsSessionOn W.known W.grows W.failures W.room W.memory device chunks.now left.1.items (Ok tt) left.0) }
-    ensures only { IfErr result (λ e. OwnFault e (RefusesWhole W.known W.grows W.failures W.room W.memory device chunks.now e)) }
-    ensures failed { IfErr result (λ e. IsIo e
-        → FailsWhole W.known W.grows W.failures W.room W.memory device chunks.now e) }
+    ensures adds { IsTrue W.device.is_memory
+        → IfOk result
+        (λ left. GainsChunks (W.device.memory device).whole (W.device.memory left.0).whole
+        (taken_of chunks.now left.1.items)) }
+    ensures made { IfOk result
+        (λ left. IsSessionOn W.device device chunks.now left.1.items (Ok tt) left.0) }
+    ensures only { IfErr result
+        (λ e. OwnFault e (WholeSessionCause W.device device chunks.now e)) }
+    ensures failed { IfErr result (λ e. IsIo e → FailsWhole W.device device chunks.now e) }
 {
     let session = append_session(alloc, device, chunks)?;
     let Session {
@@ -218,12 +212,7 @@ pub fn run_sessions<W: Reads + Writes + Seeks + Drop>(
     mut device: W,
     sessions: &[Vec<Chunk<AnyArray>>],
 ) -> Result<Sessions<W>, Fault>
-    ensures made { IfOk result (λ left. AreSessions W.known W.grows W.failures W.room W.memory device sessions.now left.answers.items left.device) }
-    ensures adds { IsTrue W.known → IfOk result (λ left. AddsInTurn (length sessions.now) (W.memory device).whole (W.memory left.device).whole
-        (all_taken_of sessions.now left.answers.items)) }
-    ensures only { IfErr result (λ e. OwnFault e (RefusesInTurn W.known W.grows W.failures W.room W.memory device sessions.now e)) }
-    ensures failed { IfErr result (λ e. IsIo e
-        → FailsInTurn W.known W.grows W.failures W.room W.memory device sessions.now e) }
+    ensures { RunsSessions W.device device sessions.now result }
 {
     let mut answers = Vec::new(alloc);
     for chunks in sessions {

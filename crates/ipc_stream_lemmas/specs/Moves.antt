@@ -52,6 +52,7 @@ MovesLaw = (h : Head) (columns : List Layout) (before after : Remembered) (bytes
 -- ---- chunks
 
 -- A reader that knew s reads these bytes as one chunk, and knows what is remembered afterwards.
+
 pub record ReadsChunk (h : Head) (bytes : List ℕ) (after : Remembered) (c : Chunk) (s : Known) : Type 0 where
   pub known : Known
   pub agrees : KnowsRemembered after known.dictionaries

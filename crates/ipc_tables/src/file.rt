@@ -96,7 +96,8 @@ impl Footer {
         // the root table has these slots, in a strict layout
         ensures encodes { Encodes result (footer_slots self.now) }
         // each accessor returns what the value says, for fields nested to any depth
-        ensures reads { (levels : ℕ) → IfOk result (λ bytes. HaveRoot bytes.items (IsFooter levels) self.now) }
+        ensures reads { (levels : ℕ) → IfOk result (λ bytes.
+            HaveRoot bytes.items (IsFooter levels) self.now) }
     {
         message(alloc, &footer_part(alloc, self)?)
     }

@@ -259,10 +259,12 @@ impl Message {
         ensures encodes { Encodes result (message_slots self.now) }
         // the message of a schema, without metadata of its own, is no longer than the weight of the
         // schema
-        ensures weight { (schema : Schema) → self.now.header ≡ MessageHeader.Schema schema → self.now.custom_metadata ≡ None
+        ensures weight { (schema : Schema) → self.now.header ≡ MessageHeader.Schema schema
+            → self.now.custom_metadata ≡ None
             → IfOk result (λ bytes. length bytes.items ≤ schema_weight schema) }
         // each accessor returns what the value says, for fields nested to any depth
-        ensures reads { (levels : ℕ) → IfOk result (λ bytes. HaveRoot bytes.items (IsMessage levels) self.now) }
+        ensures reads { (levels : ℕ) → IfOk result (λ bytes.
+            HaveRoot bytes.items (IsMessage levels) self.now) }
     {
         message(alloc, &message_part(alloc, self)?)
     }

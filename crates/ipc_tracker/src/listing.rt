@@ -41,8 +41,11 @@ pub fn list_dictionaries(
     columns: &[AnyArray],
     ids: &[IpcField],
 ) -> Result<Vec<NewDictionary>, Fault>
-    ensures lists { IfOk result (λ list. ListsAll (remembered tracker.now) tracker.now.cannot_replace (map layout_of columns.now) (all_ids_view ids.now) (map listed list.items)) }
-    ensures refuses { IfErr result (RefusesAll (remembered tracker.now) tracker.now.cannot_replace (map layout_of columns.now) (all_ids_view ids.now)) }
+    ensures lists { IfOk result (λ list.
+        ListsAll (remembered tracker.now) tracker.now.cannot_replace (map layout_of columns.now)
+        (all_ids_view ids.now) (map listed list.items)) }
+    ensures refuses { IfErr result (RefusesAll (remembered tracker.now)
+        tracker.now.cannot_replace (map layout_of columns.now) (all_ids_view ids.now)) }
 {
     let mut listing = Listing::new(alloc);
     list_all(&mut listing, tracker, columns, ids)?;

@@ -23,7 +23,8 @@ use std::rc::Rc;
 /// They are if they have the same slots, and the same data type in normal form. Their layouts in
 /// memory may differ.
 pub fn is_same_values(lhs: &AnyArray, rhs: &AnyArray) -> bool
-    ensures { IsTrue result ↔ (dictionary_of (layout_of lhs.now) ≡ dictionary_of (layout_of rhs.now)) }
+    ensures { IsTrue result
+        ↔ (dictionary_of (layout_of lhs.now) ≡ dictionary_of (layout_of rhs.now)) }
 {
     if is_same_type(lhs.data_type(), rhs.data_type()) {
         return equal(lhs, rhs);
@@ -78,8 +79,10 @@ impl DictionaryTracker {
     /// After an error the tracker is unchanged.
     pub fn insert(&mut self, dict_id: i64, array: &AnyArray) -> Result<bool, Fault>
         requires { HasKeys (level (layout_of array.now)).parts }
-        ensures inserted { Inserts (remembered self.old) self.old.cannot_replace dict_id (dictionary_of (values_in (layout_of array.now))) result (remembered self.new) }
-        ensures told { TellsReplaced (remembered self.old) self.old.cannot_replace dict_id (dictionary_of (values_in (layout_of array.now))) result }
+        ensures inserted { Inserts (remembered self.old) self.old.cannot_replace dict_id
+            (dictionary_of (values_in (layout_of array.now))) result (remembered self.new) }
+        ensures told { TellsReplaced (remembered self.old) self.old.cannot_replace dict_id
+            (dictionary_of (values_in (layout_of array.now))) result }
         ensures fixed { self.new.cannot_replace ≡ self.old.cannot_replace }
     {
         match array {
@@ -149,7 +152,8 @@ impl DictionaryTracker {
     /// There must be room for them, which [`DictionaryTracker::make_room`] makes.
     pub fn remember_all(&mut self, list: Vec<NewDictionary>)
         requires { length list.items ≤ spare self.old.dictionaries }
-        ensures memory { IsSameMemory (remembering_all (map listed list.items) (remembered self.old)) (remembered self.new) }
+        ensures memory { IsSameMemory (remembering_all (map listed list.items)
+            (remembered self.old)) (remembered self.new) }
         ensures fixed { self.new.cannot_replace ≡ self.old.cannot_replace }
     {
         for dictionary in list {

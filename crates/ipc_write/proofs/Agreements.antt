@@ -1,11 +1,11 @@
 -- How each call of a stream writer changes what its bytes mean.
-use Rattle.std.proofs.Common.{arith, ◌≡◌, ℕ, pos, ◌%◌, ◌^◌, ◌<◌, ◌⊎◌, inl, inr, Bool, IsTrue, List, [], ◌∷◌, ◌++◌, map, length, take, Some, Option, Ok, Err, refl, sym, ap, ◌∙◌, subst, append_assoc, append-nil}
+use Rattle.std.proofs.Common.{arith, ◌≡◌, ℕ, pos, ◌%◌, ◌^◌, ◌<◌, ◌⊎◌, inl, inr, IsTrue, List, [], ◌∷◌, ◌++◌, map, length, take, Some, Option, Ok, Err, refl, sym, ap, ◌∙◌, subst, append_assoc, append-nil}
 use Rattle.lower.specs.TypeTrees.{FieldTrees, TypeTree}
 use Rattle.lower_types.specs.declared.Endianness.{Endianness}
 use Rattle.lower_arrays.specs.AnyLayouts.{layout_of}
 use Rattle.lower_arrays.specs.declared.array.AnyArray.{AnyArray}
 use Rattle.ipc_base.specs.IdTrees.{IdTrees}
-use Rattle.ipc_devices.specs.Device.{Memory, WritesOver, before}
+use Rattle.ipc_devices.specs.Device.{Device, Memory, WritesOver, before}
 use Rattle.ipc_devices.specs.declared.fault.Fault.{Fault}
 use Rattle.ipc_devices.specs.declared.fault.Fault.TheVariants.{Io}
 use Rattle.ipc_stream_lemmas.proofs.Running.{open_finish, open_start, open_write}
@@ -53,14 +53,14 @@ stood_at Failed w bytes rest head chunks (inl e) h = absurd cc
 stood_at Failed w bytes rest head chunks (inr e) h = absurd cc
 
 -- A call that began to send in a new or a started writer, and failed.
-pub broken : {W : Type 0} (memory : W → Memory) (a b : WriterSeen W) (bytes base : List ℕ) (head : Head) (chunks : List Chunk) → (a.state ≡ New) ⊎ (a.state ≡ Started) → b.state ≡ Failed
-    → WritesSome (memory a.device) (memory b.device) bytes → Agrees memory a base head chunks → Agrees memory b base head chunks
-broken memory a b bytes base head chunks at failed some h =
+pub broken : {W : Type 0} (d : Device W) (a b : WriterSeen W) (bytes base : List ℕ) (head : Head) (chunks : List Chunk) → (a.state ≡ New) ⊎ (a.state ≡ Started) → b.state ≡ Failed
+    → WritesSome (d.memory a.device) (d.memory b.device) bytes → Agrees d a base head chunks → Agrees d b base head chunks
+broken d a b bytes base head chunks at failed some h =
     let added = take some.count bytes in
     let off = stood_at a.state a h.bytes added head chunks at h.stream in
     record {
       bytes = h.bytes ++ added;
-      held = held_more (memory a.device) (memory b.device) base h.bytes added h.held some.over.added;
+      held = held_more (d.memory a.device) (d.memory b.device) base h.bytes added h.held some.over.added;
       stream = subst (λ s. StreamIs s b (h.bytes ++ added) head chunks) (sym failed) off;
     }
 
@@ -85,22 +85,22 @@ same_stream Finished a b bytes head chunks order types ids same h = h
 same_stream Failed a b bytes head chunks order types ids same h = h
 
 -- a call that was refused
-pub same_agrees : {W : Type 0} (memory : W → Memory) (a b : WriterSeen W) (base : List ℕ) (head : Head) (chunks : List Chunk) → Kept a b → b.order ≡ a.order → Agrees memory a base head chunks
-    → Agrees memory b base head chunks
-same_agrees memory a b base head chunks kept order h = record {
+pub same_agrees : {W : Type 0} (d : Device W) (a b : WriterSeen W) (base : List ℕ) (head : Head) (chunks : List Chunk) → Kept a b → b.order ≡ a.order → Agrees d a base head chunks
+    → Agrees d b base head chunks
+same_agrees d a b base head chunks kept order h = record {
   bytes = h.bytes;
-  held = ap (λ d. before (memory d)) kept.device ∙ h.held;
+  held = ap (λ x. before (d.memory x)) kept.device ∙ h.held;
   stream = subst (λ s. StreamIs s b h.bytes head chunks) (sym kept.state) (same_stream a.state a b h.bytes head chunks order kept.types kept.ids kept.dictionaries h.stream);
 }
 
 -- ---- write
 
 -- The messages of a chunk that the writer accepts were sent, and are remembered.
-appended : {W : Type 0} (known grows : Bool) (failures room : W → ℕ) (memory : W → Memory) (a b : WriterSeen W) (u : Unit {0}) (columns : List AnyArray) (ids : Option IdTrees) → a.state ≡ Started → b.state ≡ Started → b.types ≡ a.types → b.ids ≡ a.ids
-    → ((fs : FieldTrees) → normal_types fs ≡ a.types → MayBeWritten a fs columns ids) → (s : SendsStep known grows failures room memory a (Ok u) b columns)
-    → WritesOver (memory a.device) (memory b.device) (messages_bytes (s.dictionaries ++ s.own ∷ []))
-    → (base : List ℕ) (head : Head) (chunks : List Chunk) → Agrees memory a base head chunks → Agrees memory b base head (chunks ++ chunk_written columns ∷ [])
-appended known grows failures room memory a b u columns ids was is types same_ids taken s over base head chunks h =
+appended : {W : Type 0} (d : Device W) (a b : WriterSeen W) (u : Unit {0}) (columns : List AnyArray) (ids : Option IdTrees) → a.state ≡ Started → b.state ≡ Started → b.types ≡ a.types → b.ids ≡ a.ids
+    → ((fs : FieldTrees) → normal_types fs ≡ a.types → MayBeWritten a fs columns ids) → (s : SendsStep d a (Ok u) b columns)
+    → WritesOver (d.memory a.device) (d.memory b.device) (messages_bytes (s.dictionaries ++ s.own ∷ []))
+    → (base : List ℕ) (head : Head) (chunks : List Chunk) → Agrees d a base head chunks → Agrees d b base head (chunks ++ chunk_written columns ∷ [])
+appended d a b u columns ids was is types same_ids taken s over base head chunks h =
     let open_ : IsOpen a h.bytes head chunks = subst (λ t. StreamIs t a h.bytes head chunks) was h.stream in
     let has = open_.has in
     let added = messages_bytes (s.dictionaries ++ s.own ∷ []) in
@@ -115,35 +115,35 @@ appended known grows failures room memory a b u columns ids was is types same_id
     } in
     record {
       bytes = bytes;
-      held = held_more (memory a.device) (memory b.device) base h.bytes added h.held over.added;
+      held = held_more (d.memory a.device) (d.memory b.device) base h.bytes added h.held over.added;
       stream = subst (λ t. StreamIs t b bytes head after) (sym is) more;
     }
 
-pub chunk_appended : {W : Type 0} (known grows : Bool) (failures room : W → ℕ) (memory : W → Memory) (a b : WriterSeen W) (u : Unit {0}) (columns : List AnyArray) (ids : Option IdTrees) → a.state ≡ Started → b.state ≡ Started → b.types ≡ a.types
-    → b.ids ≡ a.ids → ((fs : FieldTrees) → normal_types fs ≡ a.types → MayBeWritten a fs columns ids) → SendsStep known grows failures room memory a (Ok u) b columns
-    → Appends known memory a (Ok u) b (chunk_written columns)
-chunk_appended known grows failures room memory a b u columns ids was is types same_ids taken s = record {
-  appended = λ k base head chunks h. appended known grows failures room memory a b u columns ids was is types same_ids taken s (s.step.all_sent k) base head chunks h;
+pub chunk_appended : {W : Type 0} (d : Device W) (a b : WriterSeen W) (u : Unit {0}) (columns : List AnyArray) (ids : Option IdTrees) → a.state ≡ Started → b.state ≡ Started → b.types ≡ a.types
+    → b.ids ≡ a.ids → ((fs : FieldTrees) → normal_types fs ≡ a.types → MayBeWritten a fs columns ids) → SendsStep d a (Ok u) b columns
+    → Appends d a (Ok u) b (chunk_written columns)
+chunk_appended d a b u columns ids was is types same_ids taken s = record {
+  appended = λ k base head chunks h. appended d a b u columns ids was is types same_ids taken s (s.step.all_sent k) base head chunks h;
   kept = λ k base head chunks h. tt;
 }
 
 -- a chunk that wasn't sent whole
-pub chunk_not_appended : {W : Type 0} (known grows : Bool) (failures room : W → ℕ) (memory : W → Memory) (a b : WriterSeen W) (e : Fault) (columns : List AnyArray) → a.state ≡ Started
-    → SendsStep known grows failures room memory a (Err e) b columns → Appends known memory a (Err e) b (chunk_written columns)
-chunk_not_appended known grows failures room memory a b (Io x) columns was s = record {
+pub chunk_not_appended : {W : Type 0} (d : Device W) (a b : WriterSeen W) (e : Fault) (columns : List AnyArray) → a.state ≡ Started
+    → SendsStep d a (Err e) b columns → Appends d a (Err e) b (chunk_written columns)
+chunk_not_appended d a b (Io x) columns was s = record {
   appended = λ k base head chunks h. tt;
-  kept = λ k base head chunks h. broken memory a b (messages_bytes (s.dictionaries ++ s.own ∷ [])) base head chunks (inr was) s.step.io.0 (s.step.some_sent k) h;
+  kept = λ k base head chunks h. broken d a b (messages_bytes (s.dictionaries ++ s.own ∷ [])) base head chunks (inr was) s.step.io.0 (s.step.some_sent k) h;
 }
-chunk_not_appended known grows failures room memory a b _ columns was s = record {
+chunk_not_appended d a b _ columns was s = record {
   appended = λ k base head chunks h. tt;
-  kept = λ k base head chunks h. same_agrees memory a b base head chunks s.step.refused s.step.order h;
+  kept = λ k base head chunks h. same_agrees d a b base head chunks s.step.refused s.step.order h;
 }
 
 -- a chunk that was refused, whatever the state
-pub chunk_refused : {W : Type 0} (known : Bool) (memory : W → Memory) (a b : WriterSeen W) (e : Fault) (columns : List AnyArray) → Kept a b → b.order ≡ a.order → Appends known memory a (Err e) b (chunk_written columns)
-chunk_refused known memory a b e columns kept order = record {
+pub chunk_refused : {W : Type 0} (d : Device W) (a b : WriterSeen W) (e : Fault) (columns : List AnyArray) → Kept a b → b.order ≡ a.order → Appends d a (Err e) b (chunk_written columns)
+chunk_refused d a b e columns kept order = record {
   appended = λ k base head chunks h. tt;
-  kept = λ k base head chunks h. same_agrees memory a b base head chunks kept order h;
+  kept = λ k base head chunks h. same_agrees d a b base head chunks kept order h;
 }
 
 -- ---- start
@@ -154,10 +154,10 @@ unfolding head_of schema_of number_at
 some_bytes [] head e = absurd cc
 some_bytes (x ∷ xs) head e = omega arith
 
-begun : {W : Type 0} (memory : W → Memory) (a b : WriterSeen W) (metadata : List ℕ) (head : Head) → a.state ≡ New → b.state ≡ Started → length metadata % 8 ≡ 0 → length metadata < 2 ^ 31
-    → head_of metadata ≡ Some head → HeadHas b.order head b.types b.ids → IsSameMemory a.dictionaries b.dictionaries → WritesOver (memory a.device) (memory b.device) (message_bytes metadata [])
-    → (base : List ℕ) (chunks : List Chunk) → Agrees memory a base head chunks → Agrees memory b base head chunks
-begun memory a b metadata head was is whole short headed has same over base chunks h =
+begun : {W : Type 0} (d : Device W) (a b : WriterSeen W) (metadata : List ℕ) (head : Head) → a.state ≡ New → b.state ≡ Started → length metadata % 8 ≡ 0 → length metadata < 2 ^ 31
+    → head_of metadata ≡ Some head → HeadHas b.order head b.types b.ids → IsSameMemory a.dictionaries b.dictionaries → WritesOver (d.memory a.device) (d.memory b.device) (message_bytes metadata [])
+    → (base : List ℕ) (chunks : List Chunk) → Agrees d a base head chunks → Agrees d b base head chunks
+begun d a b metadata head was is whole short headed has same over base chunks h =
     let new : IsUnwritten a h.bytes chunks = subst (λ s. StreamIs s a h.bytes head chunks) was h.stream in
     let message : message_bytes metadata [] ≡ prefix (length metadata) ++ metadata =
     message_whole metadata [] whole refl ∙ ap (λ bs. prefix (length metadata) ++ bs) (append-nil metadata) in
@@ -172,62 +172,62 @@ begun memory a b metadata head was is whole short headed has same over base chun
     } in
     record {
       bytes = bytes;
-      held = held_more (memory a.device) (memory b.device) base h.bytes (message_bytes metadata []) h.held over.added ∙ ap (λ bs. base ++ bs) all;
+      held = held_more (d.memory a.device) (d.memory b.device) base h.bytes (message_bytes metadata []) h.held over.added ∙ ap (λ bs. base ++ bs) all;
       stream = subst (λ s. StreamIs s b bytes head chunks) (sym is) open_;
     }
 
 -- a schema was sent
-pub sent_schema : {W : Type 0} (known : Bool) (memory : W → Memory) (a b : WriterSeen W) (metadata : List ℕ) (head : Head) → a.state ≡ New → b.state ≡ Started → length metadata % 8 ≡ 0 → length metadata < 2 ^ 31
-    → head_of metadata ≡ Some head → HeadHas b.order head b.types b.ids → IsSameMemory a.dictionaries b.dictionaries → (IsTrue known → WritesOver (memory a.device) (memory b.device) (message_bytes metadata [])) → (x : Unit {0})
-    → BeginsStream known memory a (Ok x) b head
-sent_schema known memory a b metadata head was is whole short headed has same over x = record {
-  begun = λ k base chunks h. begun memory a b metadata head was is whole short headed has same (over k) base chunks h;
+pub sent_schema : {W : Type 0} (d : Device W) (a b : WriterSeen W) (metadata : List ℕ) (head : Head) → a.state ≡ New → b.state ≡ Started → length metadata % 8 ≡ 0 → length metadata < 2 ^ 31
+    → head_of metadata ≡ Some head → HeadHas b.order head b.types b.ids → IsSameMemory a.dictionaries b.dictionaries → (IsTrue d.is_memory → WritesOver (d.memory a.device) (d.memory b.device) (message_bytes metadata [])) → (x : Unit {0})
+    → BeginsStream d a (Ok x) b head
+sent_schema d a b metadata head was is whole short headed has same over x = record {
+  begun = λ k base chunks h. begun d a b metadata head was is whole short headed has same (over k) base chunks h;
   kept = λ k base other chunks h. tt;
 }
 
 -- a schema wasn't sent whole
-pub unsent_schema : {W : Type 0} (known grows : Bool) (failures room : W → ℕ) (memory : W → Memory) (a b : WriterSeen W) (e : Fault) (bytes : List ℕ) (count : ℕ) (head : Head) → a.state ≡ New
-    → SendStep known grows failures room memory a (Err e) b bytes count → BeginsStream known memory a (Err e) b head
-unsent_schema known grows failures room memory a b (Io x) bytes count head was step = record {
+pub unsent_schema : {W : Type 0} (d : Device W) (a b : WriterSeen W) (e : Fault) (bytes : List ℕ) (count : ℕ) (head : Head) → a.state ≡ New
+    → SendStep d a (Err e) b bytes count → BeginsStream d a (Err e) b head
+unsent_schema d a b (Io x) bytes count head was step = record {
   begun = λ k base chunks h. tt;
-  kept = λ k base other chunks h. broken memory a b bytes base other chunks (inl was) step.io.0 (step.some_sent k) h;
+  kept = λ k base other chunks h. broken d a b bytes base other chunks (inl was) step.io.0 (step.some_sent k) h;
 }
-unsent_schema known grows failures room memory a b _ bytes count head was step = record {
+unsent_schema d a b _ bytes count head was step = record {
   begun = λ k base chunks h. tt;
-  kept = λ k base other chunks h. same_agrees memory a b base other chunks step.refused step.order h;
+  kept = λ k base other chunks h. same_agrees d a b base other chunks step.refused step.order h;
 }
 
 -- ---- finish
 
 -- the mark was sent
-pub sent_mark : {W : Type 0} (known : Bool) (memory : W → Memory) (a b : WriterSeen W) → a.state ≡ Started → b.state ≡ Finished → (IsTrue known → WritesOver (memory a.device) (memory b.device) (prefix_bytes (pos 0)))
-    → Remains known memory a b
-sent_mark known memory a b was is over = record {
+pub sent_mark : {W : Type 0} (d : Device W) (a b : WriterSeen W) → a.state ≡ Started → b.state ≡ Finished → (IsTrue d.is_memory → WritesOver (d.memory a.device) (d.memory b.device) (prefix_bytes (pos 0)))
+    → Remains d a b
+sent_mark d a b was is over = record {
   kept = λ k base head chunks h.
       let open_ : IsOpen a h.bytes head chunks = subst (λ s. StreamIs s a h.bytes head chunks) was h.stream in
       let bytes = h.bytes ++ prefix 0 in
       let done : HasEnded bytes head chunks = record { stream = open_finish h.bytes head a.dictionaries chunks open_.stream } in
       record {
         bytes = bytes;
-        held = held_more (memory a.device) (memory b.device) base h.bytes (prefix_bytes (pos 0)) h.held (over k).added ∙ ap (λ bs. base ++ (h.bytes ++ bs)) mark_is;
+        held = held_more (d.memory a.device) (d.memory b.device) base h.bytes (prefix_bytes (pos 0)) h.held (over k).added ∙ ap (λ bs. base ++ (h.bytes ++ bs)) mark_is;
         stream = subst (λ s. StreamIs s b bytes head chunks) (sym is) done;
       };
 }
 
 -- The mark was sent in part.
-pub begun_mark : {W : Type 0} (known : Bool) (memory : W → Memory) (a b : WriterSeen W) → a.state ≡ Started → b.state ≡ Failed → (IsTrue known → WritesSome (memory a.device) (memory b.device) (prefix_bytes (pos 0)))
-    → Remains known memory a b
-begun_mark known memory a b was is some = record {
-  kept = λ k base head chunks h. broken memory a b (prefix_bytes (pos 0)) base head chunks (inr was) is (some k) h;
+pub begun_mark : {W : Type 0} (d : Device W) (a b : WriterSeen W) → a.state ≡ Started → b.state ≡ Failed → (IsTrue d.is_memory → WritesSome (d.memory a.device) (d.memory b.device) (prefix_bytes (pos 0)))
+    → Remains d a b
+begun_mark d a b was is some = record {
+  kept = λ k base head chunks h. broken d a b (prefix_bytes (pos 0)) base head chunks (inr was) is (some k) h;
 }
 
 -- ---- new
 
-pub fresh : {W : Type 0} (memory : W → Memory) (w : WriterSeen W) → w.state ≡ New → IsSameMemory nothing_remembered w.dictionaries → IsFresh memory w
-fresh memory w is nothing = record {
+pub fresh : {W : Type 0} (d : Device W) (w : WriterSeen W) → w.state ≡ New → IsSameMemory nothing_remembered w.dictionaries → IsFresh d w
+fresh d w is nothing = record {
   agrees = λ head. record {
     bytes = [];
-    held = sym (append-nil (before (memory w.device)));
+    held = sym (append-nil (before (d.memory w.device)));
     stream = subst (λ s. StreamIs s w [] head []) (sym is) (record { none = refl; no_chunks = refl; nothing = nothing });
   };
 }

@@ -1,11 +1,12 @@
 -- The parts of a message: how long they are, and how they are sent one after another.
-use Rattle.std.proofs.Common.{arith, ◌≡◌, ℕ, ℤ, Bool, Result, Ok, Err, subst, pos, ◌+◌, ◌-◌, ◌%◌, List, ◌++◌, length, replicate, refl, sym, ap, ◌∙◌, append-nil, append_assoc, length-append}
+use Rattle.ipc_devices.specs.Device.{Device}
+use Rattle.std.proofs.Common.{arith, ◌≡◌, ℕ, ℤ, Result, Ok, Err, subst, pos, ◌+◌, ◌-◌, ◌%◌, List, ◌++◌, length, replicate, refl, sym, ap, ◌∙◌, append-nil, append_assoc, length-append}
 use Rattle.std.proofs.lemmas.List.{length-replicate}
 use Rattle.std.specs.Int.{next_multiple_of}
 use Rattle.ipc_model.specs.WrittenBatches as written
 use Rattle.ipc_model.specs.WrittenLaws.{prefix}
 use Rattle.ipc_devices.specs.declared.fault.Fault.{Fault}
-use Rattle.ipc_plan.specs.Sending.{DeviceSeen, Sends}
+use Rattle.ipc_plan.specs.Sending.{Sends}
 use Rattle.ipc_plan.proofs.Sends.{sends_stop}
 use Rattle.ipc_write.specs.Framing.{head_bytes, head_len, message_bytes, message_len, padded, prefix_bytes}
 use Rattle.ipc_write.proofs.Sends.{both_sent}
@@ -65,17 +66,17 @@ message_whole metadata bytes whole whole_body =
 -- ---- sending
 
 -- the prefix wasn't sent whole
-pub prefix_stop : {X Y : Type 0} (known grows : Bool) (d d' : DeviceSeen) (e : Fault) (metadata : List ℕ) (n : ℤ) → n ≡ pos (next_multiple_of (length metadata) 8)
-    → Sends {X = X} known grows d d' (Err e) (prefix_bytes n) → Sends {X = Y} known grows d d' (Err e) (head_bytes metadata)
+pub prefix_stop : {X Y W : Type 0} (d : Device W) (w w' : W) (e : Fault) (metadata : List ℕ) (n : ℤ) → n ≡ pos (next_multiple_of (length metadata) 8)
+    → Sends {X = X} d (prefix_bytes n) w (Err e) w' → Sends {X = Y} d (head_bytes metadata) w (Err e) w'
 unfolding head_bytes
-prefix_stop {X = X} {Y = Y} known grows d d' e metadata n same f =
-    sends_stop {X = X} {Y = Y} known grows d d' e (prefix_bytes (pos (next_multiple_of (length metadata) 8))) (padded metadata 8)
-    (subst (λ (z : ℤ). Sends {X = X} known grows d d' (Err e) (prefix_bytes z)) same f)
+prefix_stop {X = X} {Y = Y} d w w' e metadata n same f =
+    sends_stop {X = X} {Y = Y} d w w' e (prefix_bytes (pos (next_multiple_of (length metadata) 8))) (padded metadata 8)
+    (subst (λ (z : ℤ). Sends {X = X} d (prefix_bytes z) w (Err e) w') same f)
 
 -- the prefix was sent, and then the metadata
-pub head_sent : {X Y : Type 0} (known grows : Bool) (d d' d'' : DeviceSeen) (x : X) (r : Result Y Fault) (metadata : List ℕ) (n : ℤ) → n ≡ pos (next_multiple_of (length metadata) 8)
-    → Sends {X = X} known grows d d' (Ok x) (prefix_bytes n) → Sends {X = Y} known grows d' d'' r (padded metadata 8) → Sends {X = Y} known grows d d'' r (head_bytes metadata)
+pub head_sent : {X Y W : Type 0} (d : Device W) (w w' w'' : W) (x : X) (r : Result Y Fault) (metadata : List ℕ) (n : ℤ) → n ≡ pos (next_multiple_of (length metadata) 8)
+    → Sends {X = X} d (prefix_bytes n) w (Ok x) w' → Sends {X = Y} d (padded metadata 8) w' r w'' → Sends {X = Y} d (head_bytes metadata) w r w''
 unfolding head_bytes
-head_sent {X = X} {Y = Y} known grows d d' d'' x r metadata n same f g =
-    both_sent {X = X} {Y = Y} known grows d d' d'' x r (prefix_bytes (pos (next_multiple_of (length metadata) 8))) (padded metadata 8)
-    (subst (λ (z : ℤ). Sends {X = X} known grows d d' (Ok x) (prefix_bytes z)) same f) g
+head_sent {X = X} {Y = Y} d w w' w'' x r metadata n same f g =
+    both_sent {X = X} {Y = Y} d w w' w'' x r (prefix_bytes (pos (next_multiple_of (length metadata) 8))) (padded metadata 8)
+    (subst (λ (z : ℤ). Sends {X = X} d (prefix_bytes z) w (Ok x) w') same f) g

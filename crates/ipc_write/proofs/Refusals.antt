@@ -23,8 +23,8 @@ use Rattle.ipc_tracker.proofs.Refusals.{refusal_law}
 use Rattle.ipc_tracker.specs.Listings.{RefusesAll}
 use Rattle.ipc_write.specs.Meaning.{normal_types}
 use Rattle.ipc_write.specs.Messages.{RefusesHanding}
-use Rattle.ipc_write.specs.Writers.{FitTypes, HaveTypes, MayBeWritten, MayList, MissesWrite, RefusesChunk, RefusesState, RefusesTypes, RefusesWrite, StateComesFirst, WriterSeen, WritesExactly, fault_unless_started}
-use Rattle.ipc_write.specs.declared.stream.WriterState.TheVariants.{Started}
+use Rattle.ipc_write.specs.Writers.{FitTypes, HaveTypes, MayBeWritten, MayList, MissesWrite, RefusesChunk, RefusesState, RefusesTypes, RefusesWrite, StateComesFirst, WriterSeen, WritesExactly, fault_unless_new, fault_unless_started}
+use Rattle.ipc_write.specs.declared.stream.WriterState.TheVariants.{New, Started}
 use Rattle.ipc_write.proofs.Acceptance.{accepted, have_types, like_fields, same_count}
 use Rattle.ipc_chunks.proofs.Dictionaries.{have_ids, one_type_of, short_places}
 
@@ -218,6 +218,9 @@ first_refused (Some f) a b e r was h same = let is : e ≡ State f = cc in (ap (
 
 pub first_passed : {W : Type 0} (a b : WriterSeen W) (r : Result (Unit {0}) Fault) → a.state ≡ Started → StateComesFirst (fault_unless_started a.state) a r b
 first_passed a b r was = rw was tt
+
+pub first_new : {W : Type 0} (a b : WriterSeen W) (r : Result (Unit {0}) Fault) → a.state ≡ New → StateComesFirst (fault_unless_new a.state) a r b
+first_new a b r was = rw was tt
 
 pub state_answered : {X : Type 0} (own : Option StateFault) (e : Fault) (r : Result X Fault) → r ≡ Err e → RefusesState own e → IfSome own (λ f. r ≡ Err (State f))
 state_answered own (State x) r was h = rw h was

@@ -1,11 +1,12 @@
 -- Calls of a writer that send, or are refused before anything is sent.
-use Rattle.std.proofs.Common.{◌≡◌, ℕ, ◌<◌, ◌≤◌, ◌⊎◌, inl, inr, Bool, IsTrue, List, [], ◌∷◌, ◌++◌, length, map, Option, None, Result, Ok, Err, arith, refl}
+use Rattle.std.proofs.Common.{◌≡◌, ℕ, ◌^◌, ◌<◌, ◌≤◌, ◌⊎◌, inl, inr, Bool, IsTrue, List, [], ◌∷◌, ◌++◌, length, map, Option, None, Result, Ok, Err, arith, ap, refl}
 use Rattle.std.specs.Prelude.{Vec}
+use Rattle.std.specs.Int.{next_multiple_of}
 use Rattle.std.specs.declared.alloc.Global.{Global}
 use Rattle.ipc_base.specs.declared.ipc.IpcField.{IpcField}
 use Rattle.ipc_schema_write.specs.DefaultIds.{default_all}
-use Rattle.ipc_devices.specs.Device.{Memory, Rises}
-use Rattle.ipc_devices.specs.Faults.{OnIo, OnRefused}
+use Rattle.ipc_devices.specs.Device.{Device, Rises}
+use Rattle.ipc_devices.specs.Faults.{IsIo, OnIo, OnRefused}
 use Rattle.ipc_devices.specs.declared.fault.Fault.{Fault}
 use Rattle.ipc_devices.specs.declared.fault.Fault.TheVariants.{Argument, Io, Memory as NoMemory, State}
 use Rattle.ipc_devices.specs.declared.fault.ArgFault.TheVariants.{TooLarge}
@@ -13,16 +14,16 @@ use Rattle.ipc_devices.specs.declared.fault.StateFault.{StateFault}
 use Rattle.ipc_model.specs.Streams.{Head}
 use Rattle.lower.specs.TypeTrees.{FieldTrees, Pairs}
 use Rattle.ipc_base.specs.IdTrees.{IdTrees}
-use Rattle.ipc_schema_write.specs.WriterAnswers.{RefusesSchema}
+use Rattle.ipc_schema_write.specs.WriterAnswers.{RefusesSchema, max_weight}
 use Rattle.lower_arrays.specs.AnyLayouts.{layout_of}
 use Rattle.lower_arrays.specs.declared.array.AnyArray.{AnyArray}
 use Rattle.ipc_model.specs.Offers.{FilledPlace}
-use Rattle.ipc_plan.specs.Sending.{Sends, seen_by}
+use Rattle.ipc_plan.specs.Sending.{Sends}
 use Rattle.ipc_tracker.specs.Listings.{remembering_all}
 use Rattle.ipc_tracker.specs.Trackers.{IsSameMemory}
 use Rattle.ipc_write.specs.Messages.{messages_bytes}
 use Rattle.ipc_write.specs.Sending.{Delivers, FailsOrIsFull, HandsMessages, OnSent, SendsOrRefuses}
-use Rattle.ipc_write.specs.Writers.{Kept, LeavesState, MayList, RefusesStart, RefusesState, SendStep, SendsStep, SendsSchema, StateComesFirst, WriterSeen, chosen_ids}
+use Rattle.ipc_write.specs.Writers.{Kept, LeavesState, MayList, RefusesFinish, RefusesStart, RefusesState, SendStep, SendsStep, SendsSchema, StateComesFirst, WriterSeen, chosen_ids, fault_unless_new, fault_unless_started}
 use Rattle.ipc_write.specs.declared.stream.WriterState.{WriterState}
 use Rattle.ipc_write.specs.declared.stream.WriterState.TheVariants.{Failed}
 use Rattle.ipc_write.proofs.Deliveries.{delivered}
@@ -40,6 +41,31 @@ pub refused_start : (s : WriterState) (fs : FieldTrees) (es : Pairs) (is : IdTre
 refused_start s fs es is NoMemory h = tt
 refused_start s fs es is (Argument x) h = h
 refused_start s fs es is _ h = absurd h
+
+-- What a state refuses.
+pub state_start : (s : WriterState) (fs : FieldTrees) (es : Pairs) (is : IdTrees) (e : Fault) → RefusesState (fault_unless_new s) e → RefusesStart s fs es is e
+state_start s fs es is (State x) h = h
+state_start s fs es is _ h = absurd h
+
+pub state_finish : (s : WriterState) (e : Fault) → RefusesState (fault_unless_started s) e → RefusesFinish s e
+state_finish s (State x) h = h
+state_finish s _ h = absurd h
+
+-- A device that failed, in `finish`.
+pub io_finish : (s : WriterState) (e : Fault) → IsIo e → RefusesFinish s e
+io_finish s (Io x) h = tt
+io_finish s _ h = absurd h
+
+-- The message of a schema whose length fits wasn't sent whole.
+pub unsent_start : (X : Type 0) {W : Type 0} (d : Device W) (w w' : W) (e : Fault) (bytes : List ℕ) (reason : Type 0) (s : WriterState) (fs : FieldTrees) (es : Pairs) (is : IdTrees)
+    → SendsOrRefuses {X = X} d w (Err e) w' bytes reason → (reason → ⊥) → RefusesStart s fs es is e
+unsent_start X d w w' (Argument TooLarge) bytes reason s fs es is h never = absurd (never h.1)
+unsent_start X d w w' (Io x) bytes reason s fs es is h never = tt
+unsent_start X d w w' _ bytes reason s fs es is h never = absurd h.only
+
+-- The metadata of a schema that can be written are short enough for a message.
+pub short_padded : (n weight : ℕ) → n ≤ weight → weight ≤ max_weight → 2 ^ 31 ≤ next_multiple_of n 8 → ⊥
+short_padded n weight long light large = omega (arith, long, light, large)
 
 pub state_not_io : (own : Option StateFault) (e : Fault) → RefusesState own e → (P : Type 0) → OnIo {X = Unit {0}} (Err e) P
 state_not_io own (Io x) h P = absurd h
@@ -68,39 +94,40 @@ on_sent (Err (Io e)) P p = p
 on_sent (Err _) P p = tt
 
 -- A message was refused before it was sent.
-pub refused_step : {W : Type 0} (known grows : Bool) (failures room : W → ℕ) (memory : W → Memory) (a b : WriterSeen W) (bytes : List ℕ) (count : ℕ) (e : Fault)
-    → Kept a b → b.order ≡ a.order → ((P : Type 0) → OnIo {X = Unit {0}} (Err e) P) → SendStep known grows failures room memory a (Err e) b bytes count
-refused_step known grows failures room memory a b bytes count e kept order not_io = record {
+pub refused_step : {W : Type 0} (d : Device W) (a b : WriterSeen W) (bytes : List ℕ) (count : ℕ) (e : Fault)
+    → Kept a b → b.order ≡ a.order → ((P : Type 0) → OnIo {X = Unit {0}} (Err e) P) → SendStep d a (Err e) b bytes count
+refused_step d a b bytes count e kept order not_io = record {
   monotone = rw kept.device (omega arith);
   order = order;
   io = not_io _;
   refused = on_refused (Unit {0}) e _ kept;
   done = tt;
   all_sent = λ k. tt;
-  some_sent = λ k. rw kept.device (some_none (memory a.device) bytes);
+  some_sent = λ k. rw kept.device (some_none (d.memory a.device) bytes);
+  names = ap d.names kept.device;
 }
 
 -- a chunk was refused before anything was sent
-pub refused_chunk : {W : Type 0} (known grows : Bool) (failures room : W → ℕ) (memory : W → Memory) (a b : WriterSeen W) (e : Fault) (columns : List AnyArray)
-    → Kept a b → b.order ≡ a.order → ((P : Type 0) → OnIo {X = Unit {0}} (Err e) P) → SendsStep known grows failures room memory a (Err e) b columns
-refused_chunk known grows failures room memory a b e columns kept order not_io = record {
+pub refused_chunk : {W : Type 0} (d : Device W) (a b : WriterSeen W) (e : Fault) (columns : List AnyArray)
+    → Kept a b → b.order ≡ a.order → ((P : Type 0) → OnIo {X = Unit {0}} (Err e) P) → SendsStep d a (Err e) b columns
+refused_chunk d a b e columns kept order not_io = record {
   list = [];
   dictionaries = [];
   own = record { metadata = []; body = [] };
   lists = none_sent e _ not_io;
   are = none_sent e _ not_io;
   remembers = tt;
-  step = refused_step known grows failures room memory a b _ _ e kept order not_io;
+  step = refused_step d a b _ _ e kept order not_io;
 }
 
 -- a schema was refused before a message was made
-pub refused_schema : {W : Type 0} (known grows : Bool) (failures room : W → ℕ) (memory : W → Memory) (a b : WriterSeen W) (e : Fault) (head : Head)
-    → Kept a b → b.order ≡ a.order → ((P : Type 0) → OnIo {X = Unit {0}} (Err e) P) → SendsSchema known grows failures room memory a (Err e) b head
-refused_schema known grows failures room memory a b e head kept order not_io = record {
+pub refused_schema : {W : Type 0} (d : Device W) (a b : WriterSeen W) (e : Fault) (head : Head)
+    → Kept a b → b.order ≡ a.order → ((P : Type 0) → OnIo {X = Unit {0}} (Err e) P) → SendsSchema d a (Err e) b head
+refused_schema d a b e head kept order not_io = record {
   metadata = [];
   is = none_sent e _ not_io;
   written = none_sent e _ not_io;
-  step = refused_step known grows failures room memory a b _ _ e kept order not_io;
+  step = refused_step d a b _ _ e kept order not_io;
 }
 
 -- ---- what was sent
@@ -111,64 +138,65 @@ fuller grows old new room n count h (inl rises) = inl rises
 fuller grows old new room n count h (inr full) = inr (full.0, omega (arith, h, full.1))
 
 -- all was sent
-pub ok_step : {W X : Type 0} (known grows : Bool) (failures room : W → ℕ) (memory : W → Memory) (a b : WriterSeen W) (x : X) (u : Unit {0}) (bytes : List ℕ) (count : ℕ)
-    → Sends {X = X} known grows (seen_by failures room memory a.device) (seen_by failures room memory b.device) (Ok x) bytes → b.order ≡ a.order → SendStep known grows failures room memory a (Ok u) b bytes count
-ok_step known grows failures room memory a b x u bytes count h order = record { monotone = h.monotone; order = order; io = tt; refused = tt; done = h.done; all_sent = h.memory; some_sent = h.part }
+pub ok_step : {W X : Type 0} (d : Device W) (a b : WriterSeen W) (x : X) (u : Unit {0}) (bytes : List ℕ) (count : ℕ)
+    → Sends {X = X} d bytes a.device (Ok x) b.device → b.order ≡ a.order → SendStep d a (Ok u) b bytes count
+ok_step d a b x u bytes count h order = record { monotone = h.monotone; order = order; io = tt; refused = tt; done = h.done; all_sent = h.memory; some_sent = h.part; names = h.names }
 
 -- the device failed on the way
-pub failed_step : {W X : Type 0} (known grows : Bool) (failures room : W → ℕ) (memory : W → Memory) (a b : WriterSeen W) (e : Fault) (bytes : List ℕ) (count : ℕ) → length bytes ≤ count
-    → Delivers {X = X} known grows (seen_by failures room memory a.device) (seen_by failures room memory b.device) (Err e) bytes → b.state ≡ Failed → b.order ≡ a.order → SendStep known grows failures room memory a (Err e) b bytes count
-failed_step known grows failures room memory a b (Io x) bytes count most h state order = record {
+pub failed_step : {W X : Type 0} (d : Device W) (a b : WriterSeen W) (e : Fault) (bytes : List ℕ) (count : ℕ) → length bytes ≤ count
+    → Delivers {X = X} d bytes a.device (Err e) b.device → b.state ≡ Failed → b.order ≡ a.order → SendStep d a (Err e) b bytes count
+failed_step d a b (Io x) bytes count most h state order = record {
   monotone = h.monotone;
   order = order;
-  io = (state, fuller grows _ _ _ _ count most h.failed);
+  io = (state, fuller d.grows _ _ _ _ count most h.failed);
   refused = tt;
   done = tt;
   all_sent = λ k. tt;
   some_sent = h.part;
+  names = h.names;
 }
-failed_step known grows failures room memory a b _ bytes count most h state order = absurd h.only
+failed_step d a b _ bytes count most h state order = absurd h.only
 
 -- the message of a schema wasn't sent whole
-pub unsent_step : (X : Type 0) {W : Type 0} (known grows : Bool) (failures room : W → ℕ) (memory : W → Memory) (a b : WriterSeen W) (e : Fault) (bytes : List ℕ) (count : ℕ) (reason : Type 0) → length bytes ≤ count
-    → SendsOrRefuses {X = X} known grows failures room memory a.device (Err e) b.device bytes reason → LeavesState (Err e) a.state b.state → b.order ≡ a.order → b.types ≡ a.types → b.ids ≡ a.ids
-    → IsSameMemory a.dictionaries b.dictionaries → SendStep known grows failures room memory a (Err e) b bytes count
-unsent_step X known grows failures room memory a b (Argument TooLarge) bytes count reason most h state order types ids same =
-    refused_step known grows failures room memory a b bytes count (Argument TooLarge) (record { device = h.0; state = state; types = types; ids = ids; dictionaries = same }) order (λ P. tt)
-unsent_step X known grows failures room memory a b (Io x) bytes count reason most h state order types ids same =
-    failed_step {X = X} known grows failures room memory a b (Io x) bytes count most
-    (delivered {X = X} known grows (seen_by failures room memory a.device) (seen_by failures room memory b.device) (Err (Io x)) bytes h) state order
-unsent_step X known grows failures room memory a b _ bytes count reason most h state order types ids same = absurd h.only
+pub unsent_step : (X : Type 0) {W : Type 0} (d : Device W) (a b : WriterSeen W) (e : Fault) (bytes : List ℕ) (count : ℕ) (reason : Type 0) → length bytes ≤ count
+    → SendsOrRefuses {X = X} d a.device (Err e) b.device bytes reason → LeavesState (Err e) a.state b.state → b.order ≡ a.order → b.types ≡ a.types → b.ids ≡ a.ids
+    → IsSameMemory a.dictionaries b.dictionaries → SendStep d a (Err e) b bytes count
+unsent_step X d a b (Argument TooLarge) bytes count reason most h state order types ids same =
+    refused_step d a b bytes count (Argument TooLarge) (record { device = h.0; state = state; types = types; ids = ids; dictionaries = same }) order (λ P. tt)
+unsent_step X d a b (Io x) bytes count reason most h state order types ids same =
+    failed_step {X = X} d a b (Io x) bytes count most
+    (delivered {X = X} d a.device b.device (Err (Io x)) bytes h) state order
+unsent_step X d a b _ bytes count reason most h state order types ids same = absurd h.only
 
 -- ---- a chunk
 
 -- it was sent whole, and is remembered
-pub chunk_sent : {W : Type 0} (known grows : Bool) (failures room : W → ℕ) (memory : W → Memory) (a b : WriterSeen W) (u : Unit {0}) (columns : List AnyArray) (ids : Option IdTrees) (list : List FilledPlace)
-    → MayList a columns ids list → (h : HandsMessages known grows failures room memory a.order (map layout_of columns) list a.device (Ok u) b.device)
-    → IsSameMemory (remembering_all list a.dictionaries) b.dictionaries → b.order ≡ a.order → SendsStep known grows failures room memory a (Ok u) b columns
-chunk_sent known grows failures room memory a b u columns ids list may h same order = record {
+pub chunk_sent : {W : Type 0} (d : Device W) (a b : WriterSeen W) (u : Unit {0}) (columns : List AnyArray) (ids : Option IdTrees) (list : List FilledPlace)
+    → MayList a columns ids list → (h : HandsMessages d a.order (map layout_of columns) list a.device (Ok u) b.device)
+    → IsSameMemory (remembering_all list a.dictionaries) b.dictionaries → b.order ≡ a.order → SendsStep d a (Ok u) b columns
+chunk_sent d a b u columns ids list may h same order = record {
   list = list;
   dictionaries = h.dictionaries;
   own = h.own;
   lists = may.lists;
   are = h.are;
   remembers = same;
-  step = ok_step {X = Unit {0}} known grows failures room memory a b u u (messages_bytes (h.dictionaries ++ h.own ∷ [])) _ h.sends order;
+  step = ok_step {X = Unit {0}} d a b u u (messages_bytes (h.dictionaries ++ h.own ∷ [])) _ h.sends order;
 }
 
 -- the device failed on the way, or it was refused before anything was sent
-pub chunk_unsent : {W : Type 0} (known grows : Bool) (failures room : W → ℕ) (memory : W → Memory) (a b : WriterSeen W) (e : Fault) (columns : List AnyArray) (ids : Option IdTrees) (list : List FilledPlace)
-    → MayList a columns ids list → (h : HandsMessages known grows failures room memory a.order (map layout_of columns) list a.device (Err e) b.device) → LeavesState (Err e) a.state b.state
-    → b.types ≡ a.types → b.ids ≡ a.ids → IsSameMemory a.dictionaries b.dictionaries → b.order ≡ a.order → SendsStep known grows failures room memory a (Err e) b columns
-chunk_unsent known grows failures room memory a b (Io x) columns ids list may h state types same_ids same order = record {
+pub chunk_unsent : {W : Type 0} (d : Device W) (a b : WriterSeen W) (e : Fault) (columns : List AnyArray) (ids : Option IdTrees) (list : List FilledPlace)
+    → MayList a columns ids list → (h : HandsMessages d a.order (map layout_of columns) list a.device (Err e) b.device) → LeavesState (Err e) a.state b.state
+    → b.types ≡ a.types → b.ids ≡ a.ids → IsSameMemory a.dictionaries b.dictionaries → b.order ≡ a.order → SendsStep d a (Err e) b columns
+chunk_unsent d a b (Io x) columns ids list may h state types same_ids same order = record {
   list = list;
   dictionaries = h.dictionaries;
   own = h.own;
   lists = may.lists;
   are = h.are;
   remembers = tt;
-  step = failed_step {X = Unit {0}} known grows failures room memory a b (Io x) (messages_bytes (h.dictionaries ++ h.own ∷ [])) _ (omega arith)
-      (delivered {X = Unit {0}} known grows (seen_by failures room memory a.device) (seen_by failures room memory b.device) (Err (Io x)) (messages_bytes (h.dictionaries ++ h.own ∷ [])) h.sends) state order;
+  step = failed_step {X = Unit {0}} d a b (Io x) (messages_bytes (h.dictionaries ++ h.own ∷ [])) _ (omega arith)
+      (delivered {X = Unit {0}} d a.device b.device (Err (Io x)) (messages_bytes (h.dictionaries ++ h.own ∷ [])) h.sends) state order;
 }
-chunk_unsent known grows failures room memory a b _ columns ids list may h state types same_ids same order =
-    refused_chunk known grows failures room memory a b _ columns (record { device = h.sends; state = state; types = types; ids = same_ids; dictionaries = same }) order (λ P. tt)
+chunk_unsent d a b _ columns ids list may h state types same_ids same order =
+    refused_chunk d a b _ columns (record { device = h.sends; state = state; types = types; ids = same_ids; dictionaries = same }) order (λ P. tt)

@@ -1,7 +1,7 @@
 -- What the bytes mean that a stream writer has written.
 -- (Arrow columnar format, "IPC Streaming Format".)
-use Rattle.std.specs.Prelude.{◌≡◌, ℕ, ◌⊎◌, Bool, IsTrue, List, [], ◌∷◌, ◌++◌, Result, OnOk, OnErr}
-use Rattle.ipc_devices.specs.Device.{Memory, before}
+use Rattle.std.specs.Prelude.{◌≡◌, ℕ, ◌⊎◌, IsTrue, List, [], ◌∷◌, ◌++◌, Result, OnOk, OnErr}
+use Rattle.ipc_devices.specs.Device.{Device, Memory, before}
 use Rattle.ipc_devices.specs.declared.fault.Fault.{Fault}
 use Rattle.ipc_stream_lemmas.specs.Remembered.{nothing_remembered}
 use Rattle.ipc_stream_lemmas.specs.Runs.{IsOpen as IsOpenStream}
@@ -57,32 +57,32 @@ pub record HoldsStream {W : Type 0} (m : Memory) (w : WriterSeen W) (base : List
   pub stream : StreamIs w.state w bytes head chunks
 
 -- The device of a writer has the bytes `base`, and then a stream of this schema and these chunks.
-abbrev pub Agrees : {W : Type 0} → (W → Memory) → WriterSeen W → List ℕ → Head → List Chunk → Type 0
-Agrees memory w base head chunks = HoldsStream (memory w.device) w base head chunks
+abbrev pub Agrees : {W : Type 0} → Device W → WriterSeen W → List ℕ → Head → List Chunk → Type 0
+Agrees d w base head chunks = HoldsStream (d.memory w.device) w base head chunks
 
 -- ---- calls
 
 -- The effect of `start` on the stream: if it returns Ok, the stream has
 -- this head, else it is as it was.
-pub record BeginsStream {W : Type 0} (known : Bool) (memory : W → Memory) (a : WriterSeen W) (r : Result Unit Fault) (b : WriterSeen W) (head : Head) : Type 0 where
-  pub begun : IsTrue known → (base : List ℕ) (chunks : List Chunk) → Agrees memory a base head chunks → OnOk r (Agrees memory b base head chunks)
-  pub kept : IsTrue known → (base : List ℕ) (other : Head) (chunks : List Chunk) → Agrees memory a base other chunks → OnErr r (Agrees memory b base other chunks)
+pub record BeginsStream {W : Type 0} (d : Device W) (a : WriterSeen W) (r : Result Unit Fault) (b : WriterSeen W) (head : Head) : Type 0 where
+  pub begun : IsTrue d.is_memory → (base : List ℕ) (chunks : List Chunk) → Agrees d a base head chunks → OnOk r (Agrees d b base head chunks)
+  pub kept : IsTrue d.is_memory → (base : List ℕ) (other : Head) (chunks : List Chunk) → Agrees d a base other chunks → OnErr r (Agrees d b base other chunks)
 
 -- The effect of `write` on the stream: if it returns Ok, the stream has one
 -- chunk more, else it is as it was.
-pub record Appends {W : Type 0} (known : Bool) (memory : W → Memory) (a : WriterSeen W) (r : Result Unit Fault) (b : WriterSeen W) (chunk : Chunk) : Type 0 where
-  pub appended : IsTrue known → (base : List ℕ) (head : Head) (chunks : List Chunk) → Agrees memory a base head chunks → OnOk r (Agrees memory b base head (chunks ++ chunk ∷ []))
-  pub kept : IsTrue known → (base : List ℕ) (head : Head) (chunks : List Chunk) → Agrees memory a base head chunks → OnErr r (Agrees memory b base head chunks)
+pub record Appends {W : Type 0} (d : Device W) (a : WriterSeen W) (r : Result Unit Fault) (b : WriterSeen W) (chunk : Chunk) : Type 0 where
+  pub appended : IsTrue d.is_memory → (base : List ℕ) (head : Head) (chunks : List Chunk) → Agrees d a base head chunks → OnOk r (Agrees d b base head (chunks ++ chunk ∷ []))
+  pub kept : IsTrue d.is_memory → (base : List ℕ) (head : Head) (chunks : List Chunk) → Agrees d a base head chunks → OnErr r (Agrees d b base head chunks)
 
 -- The effect of `finish` on the stream: it has the chunks that it had.
-pub record Remains {W : Type 0} (known : Bool) (memory : W → Memory) (a b : WriterSeen W) : Type 0 where
-  pub kept : IsTrue known → (base : List ℕ) (head : Head) (chunks : List Chunk) → Agrees memory a base head chunks → Agrees memory b base head chunks
+pub record Remains {W : Type 0} (d : Device W) (a b : WriterSeen W) : Type 0 where
+  pub kept : IsTrue d.is_memory → (base : List ℕ) (head : Head) (chunks : List Chunk) → Agrees d a base head chunks → Agrees d b base head chunks
 
 -- From writer a to b, calls append these chunks to the stream; each
 -- `start` has the schema of this head.
-pub record GrowsBy {W : Type 0} (known : Bool) (memory : W → Memory) (a b : WriterSeen W) (head : Head) (added : List Chunk) : Type 0 where
-  pub followed : IsTrue known → (base : List ℕ) (chunks : List Chunk) → Agrees memory a base head chunks → Agrees memory b base head (chunks ++ added)
+pub record GrowsBy {W : Type 0} (d : Device W) (a b : WriterSeen W) (head : Head) (added : List Chunk) : Type 0 where
+  pub followed : IsTrue d.is_memory → (base : List ℕ) (chunks : List Chunk) → Agrees d a base head chunks → Agrees d b base head (chunks ++ added)
 
 -- A writer that has written nothing: its stream is empty, whatever bytes precede it.
-pub record IsFresh {W : Type 0} (memory : W → Memory) (w : WriterSeen W) : Type 0 where
-  pub agrees : (head : Head) → Agrees memory w (before (memory w.device)) head []
+pub record IsFresh {W : Type 0} (d : Device W) (w : WriterSeen W) : Type 0 where
+  pub agrees : (head : Head) → Agrees d w (before (d.memory w.device)) head []

@@ -1,4 +1,5 @@
 pub mod Agreement
+pub mod Api
 pub mod Calls
 pub mod Framing
 pub mod Meaning

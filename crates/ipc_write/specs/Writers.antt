@@ -1,6 +1,6 @@
 -- What the calls of a stream writer do.
 -- (Arrow columnar format, "IPC Streaming Format".)
-use Rattle.std.specs.Prelude.{◌≡◌, ◌⊎◌, ℕ, ◌≤◌, Bool, false, if◌then◌else◌, IsTrue, List, [], ◌∷◌, ◌++◌, Vec, length, map, Option, Some, None, IfSome, IsSomeAnd, Result, Ok, Err, OnOk}
+use Rattle.std.specs.Prelude.{◌≡◌, ◌⊎◌, ℕ, ◌≤◌, false, if◌then◌else◌, IsTrue, List, [], ◌∷◌, ◌++◌, Vec, length, map, Option, Some, None, IfSome, IsSomeAnd, Result, Ok, Err, OnOk}
 use Rattle.std.specs.List.{AllByRecursion, AllZip}
 use Rattle.std.specs.Borrow.{Bor}
 use Rattle.std.specs.declared.alloc.Global.{Global}
@@ -8,7 +8,7 @@ use Rattle.ipc_base.specs.Chunks.{row_count}
 use Rattle.ipc_base.specs.IdTrees.{IdTrees, all_ids_view}
 use Rattle.ipc_base.specs.declared.ipc.IpcField.{IpcField}
 use Rattle.ipc_chunks.specs.Messages.{AreMessages, Message, RefusesSome}
-use Rattle.ipc_devices.specs.Device.{Memory, WritesOver}
+use Rattle.ipc_devices.specs.Device.{Device, WritesOver}
 use Rattle.ipc_devices.specs.Faults.{OnIo, OnRefused, OwnFault}
 use Rattle.ipc_devices.specs.declared.fault.Fault.{Fault}
 use Rattle.ipc_devices.specs.declared.fault.Fault.TheVariants.{Argument, Io, Memory as NoMemory, State}
@@ -132,14 +132,15 @@ pub record Kept {W : Type 0} (a b : WriterSeen W) : Type 0 where
 
 -- What a call that sends these bytes does to its device, and what a refused call leaves. If it
 -- returns Ok, no call of the device failed.
-pub record SendStep {W : Type 0} (known grows : Bool) (failures room : W → ℕ) (memory : W → Memory) (a : WriterSeen W) (r : Result Unit Fault) (b : WriterSeen W) (bytes : List ℕ) (count : ℕ) : Type 0 where
-  pub monotone : failures a.device ≤ failures b.device
+pub record SendStep {W : Type 0} (d : Device W) (a : WriterSeen W) (r : Result Unit Fault) (b : WriterSeen W) (bytes : List ℕ) (count : ℕ) : Type 0 where
+  pub monotone : d.failures a.device ≤ d.failures b.device
   pub order : b.order ≡ a.order
-  pub io : OnIo r ((b.state ≡ Failed) × FailsOrIsFull grows (failures a.device) (failures b.device) (room a.device) count)
+  pub io : OnIo r ((b.state ≡ Failed) × FailsOrIsFull d.grows (d.failures a.device) (d.failures b.device) (d.room a.device) count)
   pub refused : OnRefused r (Kept a b)
-  pub done : OnOk r (failures b.device ≡ failures a.device)
-  pub all_sent : IsTrue known → OnOk r (WritesOver (memory a.device) (memory b.device) bytes)
-  pub some_sent : IsTrue known → WritesSome (memory a.device) (memory b.device) bytes
+  pub done : OnOk r (d.failures b.device ≡ d.failures a.device)
+  pub all_sent : IsTrue d.is_memory → OnOk r (WritesOver (d.memory a.device) (d.memory b.device) bytes)
+  pub some_sent : IsTrue d.is_memory → WritesSome (d.memory a.device) (d.memory b.device) bytes
+  pub names : d.names b.device ≡ d.names a.device
 
 -- The state in which a call that sends leaves the writer.
 abbrev pub LeavesState : Result Unit Fault → WriterState → WriterState → Type 0
@@ -150,22 +151,22 @@ LeavesState (Err _) s s' = s' ≡ s
 -- If a call sends anything, it sends the messages of these columns. They are those of the
 -- dictionaries that are new or differ from those remembered, inner before outer, and that of the
 -- columns. The dictionaries that were sent are remembered then.
-pub record SendsStep {W : Type 0} (known grows : Bool) (failures room : W → ℕ) (memory : W → Memory) (a : WriterSeen W) (r : Result Unit Fault) (b : WriterSeen W) (columns : List AnyArray) : Type 0 where
+pub record SendsStep {W : Type 0} (d : Device W) (a : WriterSeen W) (r : Result Unit Fault) (b : WriterSeen W) (columns : List AnyArray) : Type 0 where
   pub list : List FilledPlace
   pub dictionaries : List Message
   pub own : Message
   pub lists : OnSent r (ListsAll a.dictionaries false (map layout_of columns) a.ids list)
   pub are : OnSent r (AreMessages a.order (map layout_of columns) list dictionaries own)
   pub remembers : OnOk r (IsSameMemory (remembering_all list a.dictionaries) b.dictionaries)
-  pub step : SendStep known grows failures room memory a r b (messages_bytes (dictionaries ++ own ∷ [])) (length (messages_bytes (dictionaries ++ own ∷ [])))
+  pub step : SendStep d a r b (messages_bytes (dictionaries ++ own ∷ [])) (length (messages_bytes (dictionaries ++ own ∷ [])))
 
 -- A call that sends a schema message. If anything was sent, the metadata are those of a stream with
 -- this head, without a body, and laid out as messages are written.
-pub record SendsSchema {W : Type 0} (known grows : Bool) (failures room : W → ℕ) (memory : W → Memory) (a : WriterSeen W) (r : Result Unit Fault) (b : WriterSeen W) (head : Head) : Type 0 where
+pub record SendsSchema {W : Type 0} (d : Device W) (a : WriterSeen W) (r : Result Unit Fault) (b : WriterSeen W) (head : Head) : Type 0 where
   pub metadata : List ℕ
   pub is : OnSent r (head_of metadata ≡ Some head)
   pub written : OnSent r (IsWritten metadata)
-  pub step : SendStep known grows failures room memory a r b (message_bytes metadata []) (message_len metadata [])
+  pub step : SendStep d a r b (message_bytes metadata []) (message_len metadata [])
 
 -- The columns are arrays of the types that a writer accepts.
 pub record FitTypes {W : Type 0} (w : WriterSeen W) (columns : List AnyArray) : Type 0 where

@@ -1,11 +1,7 @@
 //! Lists of calls of a stream writer, their results, and the bytes after them.
 ghost use Rattle.std.specs.Prelude.{IfOk, OnErr};
 ghost use Rattle.lower.specs.TypeViews.{fields_view, pairs_of};
-ghost use Rattle.ipc_schema_write.specs.WriterAnswers.{written_head_as};
-ghost use Rattle.ipc_model.specs.WriterStates.{IsRun, answered};
-ghost use Rattle.ipc_model.specs.Writers.{taken};
-ghost use Rattle.ipc_write.specs.Agreement.{GrowsBy};
-ghost use Rattle.ipc_write.specs.Calls.{AreMade, FirstAreMade, HandsIds, IsMade, ended_as, state_seen, writer_in};
+ghost use Rattle.ipc_write.specs.Calls.{FirstAreMade, HandsIds, IsMade, RunsStream};
 ghost use Rattle.ipc_write.specs.Writers.{chosen_ids, seen};
 
 use crate::stream::StreamWriter;
@@ -38,7 +34,7 @@ pub fn run_call<W: Writes + Drop>(
     call: &StreamCall,
 ) -> Result<(), Fault>
     ensures { let fields = fields_view schema.now.fields.items in
-        IsMade W.known W.grows W.failures W.room W.memory fields (pairs_of schema.now.metadata.entries) (chosen_ids ipc_fields fields)
+        IsMade W.device fields (pairs_of schema.now.metadata.entries) (chosen_ids ipc_fields fields)
         (seen writer.old) call.now result (seen writer.new) }
 {
     match call {
@@ -63,17 +59,15 @@ pub fn run_calls<W: Writes + Drop>(
     ipc_fields: Option<Vec<IpcField>>,
     calls: &[StreamCall],
 ) -> Result<Vec<Result<(), Fault>>, AllocError>
-    ensures made { let fields = fields_view schema.now.fields.items in
-        IfOk result (λ answers. AreMade W.known W.grows W.failures W.room W.memory fields (pairs_of schema.now.metadata.entries) (chosen_ids ipc_fields fields)
+    ensures ran { let fields = fields_view schema.now.fields.items in
+        IfOk result
+        (λ answers. RunsStream W.device fields (pairs_of schema.now.metadata.entries)
+        (chosen_ids ipc_fields fields)
         (seen writer.old) calls.now answers.items (seen writer.new)) }
-    ensures run { IfOk result (λ answers. IsRun (writer_in (seen writer.old).order (state_seen (seen writer.old).state)) (ended_as calls.now answers.items)
-        (writer_in (seen writer.new).order (state_seen (seen writer.new).state))) }
-    ensures follows { let fields = fields_view schema.now.fields.items in
-        IfOk result (λ answers. GrowsBy W.known W.memory (seen writer.old) (seen writer.new)
-        (written_head_as (seen writer.old).order fields (pairs_of schema.now.metadata.entries) (chosen_ids ipc_fields fields))
-        (taken (answered (ended_as calls.now answers.items)))) }
     ensures refused { let fields = fields_view schema.now.fields.items in
-        OnErr result (FirstAreMade W.known W.grows W.failures W.room W.memory fields (pairs_of schema.now.metadata.entries) (chosen_ids ipc_fields fields)
+        OnErr result
+        (FirstAreMade W.device fields (pairs_of schema.now.metadata.entries)
+        (chosen_ids ipc_fields fields)
         (seen writer.old) calls.now (seen writer.new)) }
 {
     let mut answers = Vec::new(alloc);

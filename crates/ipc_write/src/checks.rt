@@ -49,7 +49,8 @@ pub fn check_new(state: WriterState) -> Result<(), Fault>
 ///
 /// The error is `Argument(FieldsDiffer)`.
 pub fn check_ids(ipc_fields: Option<&[IpcField]>, own: &[IpcField]) -> Result<(), Fault>
-    ensures ok { OnOk result (IfSome (seen_ids ipc_fields.entry) (λ given. given ≡ all_ids_view own.now)) }
+    ensures ok { OnOk result
+        (IfSome (seen_ids ipc_fields.entry) (λ given. given ≡ all_ids_view own.now)) }
     ensures only { IfErr result (λ e. (e ≡ Argument FieldsDiffer)
         × IsSomeAnd (seen_ids ipc_fields.entry) (λ given. ¬ (given ≡ all_ids_view own.now))) }
 {

@@ -1,7 +1,7 @@
 //! Sends messages to a device.
 ghost use Rattle.std.specs.Prelude.{◌≡◌, ◌+◌, ◌-◌, ◌^◌, ◌<◌, ◌≤◌, [], All, length, map, IfOk, OnOk};
 ghost use Rattle.std.specs.Int.{next_multiple_of};
-ghost use Rattle.ipc_plan.specs.Sending.{Sends, seen_by};
+ghost use Rattle.ipc_plan.specs.Sending.{Sends};
 ghost use Rattle.ipc_write.specs.Framing.{head_bytes, head_len, message_bytes, padded, prefix_bytes};
 ghost use Rattle.ipc_write.specs.Messages.{all_seen, messages_bytes};
 ghost use Rattle.ipc_chunks.specs.Messages.{AreSendable, IsSendable, message_seen};
@@ -18,8 +18,7 @@ use ipc_plan::sending::{send_bytes, send_pieces, zeros};
 /// `Io` comes only if the device failed, or if it is memory whose growth was refused. A prefix of
 /// the bytes was sent then. There is no other error.
 pub fn write_all<W: Writes>(writer: &mut W, bytes: &[u8]) -> Result<(), Fault>
-    ensures sends { Sends W.known W.grows (seen_by W.failures W.room W.memory writer.old)
-        (seen_by W.failures W.room W.memory writer.new) result bytes.now }
+    ensures sends { Sends W.device bytes.now writer.old result writer.new }
 {
     send_bytes(writer, bytes)
 }
@@ -37,8 +36,7 @@ fn padding(len: usize, multiple: usize) -> usize
 fn write_padded<W: Writes>(writer: &mut W, bytes: &[u8], multiple: usize) -> Result<(), Fault>
     requires positive { 0 < multiple }
     requires most { multiple ≤ 64 }
-    ensures sends { Sends W.known W.grows (seen_by W.failures W.room W.memory writer.old)
-        (seen_by W.failures W.room W.memory writer.new) result (padded bytes.now multiple) }
+    ensures sends { Sends W.device (padded bytes.now multiple) writer.old result writer.new }
 {
     send_bytes(writer, bytes)?;
     send_bytes(writer, zeros(padding(bytes.len(), multiple)))
@@ -51,8 +49,7 @@ fn write_padded<W: Writes>(writer: &mut W, bytes: &[u8], multiple: usize) -> Res
 #[tactic(auto, unfolding(crate::specs::Framing::prefix_bytes))]
 pub fn write_continuation<W: Writes>(writer: &mut W, total_len: i32) -> Result<usize, Fault>
     ensures answer { IfOk result (λ n. n ≡ 8) }
-    ensures sends { Sends W.known W.grows (seen_by W.failures W.room W.memory writer.old)
-        (seen_by W.failures W.room W.memory writer.new) result (prefix_bytes total_len) }
+    ensures sends { Sends W.device (prefix_bytes total_len) writer.old result writer.new }
 {
     let mut prefix = [0xff; 8];
     prefix[4..].copy_from_slice(&total_len.to_le_bytes());
@@ -68,7 +65,7 @@ pub fn write_continuation<W: Writes>(writer: &mut W, total_len: i32) -> Result<u
 fn write_metadata<W: Writes>(writer: &mut W, metadata: &[u8]) -> Result<usize, Fault>
     ensures len { IfOk result (λ len. len ≡ head_len metadata.now) }
     ensures ok { OnOk result (next_multiple_of (length metadata.now) 8 < 2 ^ 31) }
-    ensures sends { SendsOrRefuses W.known W.grows W.failures W.room W.memory writer.old result writer.new
+    ensures sends { SendsOrRefuses W.device writer.old result writer.new
         (head_bytes metadata.now) (2 ^ 31 ≤ next_multiple_of (length metadata.now) 8) }
 {
     let padded_len = metadata.len().next_multiple_of(8);
@@ -82,7 +79,7 @@ fn write_metadata<W: Writes>(writer: &mut W, metadata: &[u8]) -> Result<usize, F
 
 // Sends a message that has no body. The errors are those of `write_metadata`.
 pub(crate) fn write_head<W: Writes>(writer: &mut W, metadata: &[u8]) -> Result<(), Fault>
-    ensures sends { SendsOrRefuses W.known W.grows W.failures W.room W.memory writer.old result writer.new
+    ensures sends { SendsOrRefuses W.device writer.old result writer.new
         (message_bytes metadata.now []) (2 ^ 31 ≤ next_multiple_of (length metadata.now) 8) }
 {
     write_metadata(writer, metadata)?;
@@ -107,7 +104,7 @@ pub fn write_message<W: Writes>(
         (lens.0 ≡ 8 + next_multiple_of (length encoded.now.ipc_message.items) 8)
         × (lens.1 ≡ next_multiple_of (length encoded.now.arrow_data.items) 64)) }
     ensures ok { OnOk result (next_multiple_of (length encoded.now.ipc_message.items) 8 < 2 ^ 31) }
-    ensures sends { SendsOrRefuses W.known W.grows W.failures W.room W.memory writer.old result writer.new
+    ensures sends { SendsOrRefuses W.device writer.old result writer.new
         (message_bytes encoded.now.ipc_message.items encoded.now.arrow_data.items)
         (2 ^ 31 ≤ next_multiple_of (length encoded.now.ipc_message.items) 8) }
 {
@@ -126,10 +123,12 @@ pub fn write_encoded<W: Writes>(
     encoded: &Encoded<'_>,
 ) -> Result<(usize, u64), Fault>
     requires { IsSendable encoded.now }
-    ensures lengths { IfOk result (λ lens. (lens.0 ≡ head_len encoded.now.metadata.items) × (lens.1 ≡ encoded.now.body.end)) }
-    ensures sends { Sends W.known W.grows (seen_by W.failures W.room W.memory writer.old)
-        (seen_by W.failures W.room W.memory writer.new) result
-        (message_bytes (message_seen encoded.now).metadata (message_seen encoded.now).body) }
+    ensures lengths { IfOk result (λ lens.
+        (lens.0 ≡ head_len encoded.now.metadata.items) × (lens.1 ≡ encoded.now.body.end)) }
+    ensures sends { Sends W.device
+        (message_bytes (message_seen encoded.now).metadata (message_seen encoded.now).body)
+        writer.old result
+        writer.new }
 {
     let head_len = write_metadata(writer, &encoded.metadata)?;
     send_pieces(writer, &encoded.body.pieces, encoded.body.order)?;
@@ -139,8 +138,8 @@ pub fn write_encoded<W: Writes>(
 // Sends messages in order.
 fn write_all_encoded<W: Writes>(writer: &mut W, messages: &[Encoded<'_>]) -> Result<(), Fault>
     requires { All IsSendable messages.now }
-    ensures { Sends W.known W.grows (seen_by W.failures W.room W.memory writer.old)
-        (seen_by W.failures W.room W.memory writer.new) result (messages_bytes (map message_seen messages.now)) }
+    ensures { Sends W.device (messages_bytes (map message_seen messages.now)) writer.old result
+        writer.new }
 {
     for message in messages {
         write_encoded(writer, message)?;
@@ -154,8 +153,7 @@ fn write_all_encoded<W: Writes>(writer: &mut W, messages: &[Encoded<'_>]) -> Res
 /// the messages was sent then. There is no other error.
 pub fn write_messages<W: Writes>(writer: &mut W, messages: &Messages<'_>) -> Result<(), Fault>
     requires { AreSendable messages.now }
-    ensures { Sends W.known W.grows (seen_by W.failures W.room W.memory writer.old)
-        (seen_by W.failures W.room W.memory writer.new) result (messages_bytes (all_seen messages.now)) }
+    ensures { Sends W.device (messages_bytes (all_seen messages.now)) writer.old result writer.new }
 {
     write_all_encoded(writer, &messages.dictionaries)?;
     write_encoded(writer, &messages.record_batch)?;

@@ -11,16 +11,16 @@ ghost use Rattle.ipc_base.specs.Chunks.{row_count};
 ghost use Rattle.ipc_devices.specs.declared.fault.Fault.TheVariants.{State};
 ghost use Rattle.ipc_encode.specs.Encoding.{IsEncodable, levels_of};
 ghost use Rattle.ipc_encode.specs.declared.batches.BatchKind.TheVariants.{Record};
-ghost use Rattle.ipc_schema_write.specs.WriterAnswers.{byte_order, written_head_as};
+ghost use Rattle.ipc_schema_write.specs.WriterAnswers.{byte_order};
 ghost use Rattle.ipc_tracker.specs.Listings.{listed};
-ghost use Rattle.ipc_write.specs.declared.stream.WriterState.TheVariants.{Failed, Finished, New, Started};
-ghost use Rattle.ipc_write.specs.Agreement.{Appends, BeginsStream, IsFresh, Remains};
+ghost use Rattle.ipc_write.specs.declared.stream.WriterState.TheVariants.{New};
+ghost use Rattle.ipc_write.specs.Agreement.{IsFresh};
+ghost use Rattle.ipc_write.specs.Api.{FinishesStream, StartsStream, WritesToStream};
 ghost use Rattle.ipc_write.specs.Framing.{message_bytes, prefix_bytes};
-ghost use Rattle.ipc_write.specs.Meaning.{chunk_written, normal_types};
+ghost use Rattle.ipc_write.specs.Meaning.{normal_types};
 ghost use Rattle.ipc_write.specs.Messages.{RefusesHanding};
-ghost use Rattle.ipc_plan.specs.Sending.{seen_by};
 ghost use Rattle.ipc_write.specs.Sending.{Delivers, HandsMessages, SendsOrRefuses};
-ghost use Rattle.ipc_write.specs.Writers.{HaveTypes, LeavesState, MayList, RefusesChunk, RefusesFinish, RefusesStart, RefusesTypes, RefusesWrite, SendStep, SendsStep, SendsSchema, StartsWith, StateComesFirst, TakesChunk, WritesExactly, chosen_ids, fault_unless_new, fault_unless_started, normal_view, order_of, seen, seen_ids};
+ghost use Rattle.ipc_write.specs.Writers.{HaveTypes, LeavesState, MayList, RefusesChunk, RefusesTypes, chosen_ids, fault_unless_started, normal_view, order_of, seen, seen_ids};
 
 mod writer;
 
@@ -76,7 +76,7 @@ fn send_schema<W: Writes>(
     state: &mut WriterState,
     metadata: &[u8],
 ) -> Result<(), Fault>
-    ensures sends { SendsOrRefuses W.known W.grows W.failures W.room W.memory writer.old result writer.new
+    ensures sends { SendsOrRefuses W.device writer.old result writer.new
         (message_bytes metadata.now []) (2 ^ 31 ≤ next_multiple_of (length metadata.now) 8) }
     ensures state { LeavesState result state.old state.new }
 {
@@ -100,7 +100,8 @@ fn send_chunk<W: Writes>(
     dictionaries: &[NewDictionary],
     order: Endianness,
 ) -> Result<(), Fault>
-    ensures sends { HandsMessages W.known W.grows W.failures W.room W.memory order (map layout_of columns.now) (map listed dictionaries.now)
+    ensures sends { HandsMessages W.device order (map layout_of columns.now)
+        (map listed dictionaries.now)
         writer.old result writer.new }
     ensures takes { MatchResult result (λ _. IsEncodable Record (row_count len_of (map layout_of columns.now)) (levels_of (map layout_of columns.now)))
         (RefusesHanding (map listed dictionaries.now) (map layout_of columns.now)) }
@@ -113,8 +114,7 @@ fn send_chunk<W: Writes>(
 
 // Sends the end mark of a stream, and flushes the device.
 fn send_mark<W: Writes>(writer: &mut W) -> Result<(), Fault>
-    ensures sends { Delivers W.known W.grows (seen_by W.failures W.room W.memory writer.old)
-        (seen_by W.failures W.room W.memory writer.new) result (prefix_bytes (pos 0)) }
+    ensures sends { Delivers W.device (prefix_bytes (pos 0)) writer.old result writer.new }
 {
     write_continuation(writer, 0)?;
     writer.flush()?;
@@ -148,7 +148,7 @@ impl<W: Writes + Drop> StreamWriter<W> {
         ensures device { (seen result).device ≡ writer }
         ensures state { (seen result).state ≡ New }
         ensures order { (seen result).order ≡ order_of write_options }
-        ensures means { IsFresh W.memory (seen result) }
+        ensures means { IsFresh W.device (seen result) }
     {
         StreamWriter {
             alloc,
@@ -191,19 +191,9 @@ impl<W: Writes + Drop> StreamWriter<W> {
     /// - `Io`: the device failed, or it is memory whose growth was refused. Some of the first bytes
     ///   may have been sent, and each later `start`, `write` and `finish` returns `State(Failed)`.
     pub fn start(&mut self, schema: &Schema, ipc_fields: Option<Vec<IpcField>>) -> Result<(), Fault>
-        ensures first { StateComesFirst (fault_unless_new (seen self.old).state) (seen self.old) result (seen self.new) }
-        ensures step { let fields = fields_view schema.now.fields.items in
-            SendsSchema W.known W.grows W.failures W.room W.memory (seen self.old) result (seen self.new)
-            (written_head_as (seen self.old).order fields (pairs_of schema.now.metadata.entries) (chosen_ids ipc_fields fields)) }
-        ensures ok { let fields = fields_view schema.now.fields.items in
-            OnOk result (StartsWith (seen self.old) (seen self.new) fields (pairs_of schema.now.metadata.entries)
-            (chosen_ids ipc_fields fields)) }
-        ensures only { let fields = fields_view schema.now.fields.items in
-            IfErr result (RefusesStart (seen self.old).state fields (pairs_of schema.now.metadata.entries)
-            (chosen_ids ipc_fields fields)) }
-        ensures means { let fields = fields_view schema.now.fields.items in
-            BeginsStream W.known W.memory (seen self.old) result (seen self.new)
-            (written_head_as (seen self.old).order fields (pairs_of schema.now.metadata.entries) (chosen_ids ipc_fields fields)) }
+        ensures { let fields = fields_view schema.now.fields.items in
+            StartsStream W.device (seen self.old) fields (pairs_of schema.now.metadata.entries)
+            (chosen_ids ipc_fields fields) result (seen self.new) }
     {
         check_new(self.state)?;
         let ipc_fields = match ipc_fields {
@@ -269,12 +259,8 @@ impl<W: Writes + Drop> StreamWriter<W> {
         columns: &Chunk<AnyArray>,
         ipc_fields: Option<&[IpcField]>,
     ) -> Result<(), Fault>
-        ensures first { StateComesFirst (fault_unless_started (seen self.old).state) (seen self.old) result (seen self.new) }
-        ensures step { SendsStep W.known W.grows W.failures W.room W.memory (seen self.old) result (seen self.new) columns.now }
-        ensures ok { OnOk result (TakesChunk (seen self.old) (seen self.new) columns.now (seen_ids ipc_fields.entry)) }
-        ensures only { IfErr result (RefusesWrite (seen self.old) columns.now (seen_ids ipc_fields.entry)) }
-        ensures exact { WritesExactly (seen self.old) columns.now (seen_ids ipc_fields.entry) result }
-        ensures means { Appends W.known W.memory (seen self.old) result (seen self.new) (chunk_written columns.now) }
+        ensures { WritesToStream W.device (seen self.old) columns.now (seen_ids ipc_fields.entry)
+            result (seen self.new) }
     {
         let dictionaries = self.check_write(columns.arrays(), ipc_fields)?;
         // Room for all dictionaries is allocated here, so that nothing can fail after sending.
@@ -299,12 +285,7 @@ impl<W: Writes + Drop> StreamWriter<W> {
     /// - `Io`: a write or the flush failed, or the device is memory whose growth was refused. Each
     ///   later `start`, `write` and `finish` returns `State(Failed)`.
     pub fn finish(&mut self) -> Result<(), Fault>
-        ensures first { StateComesFirst (fault_unless_started (seen self.old).state) (seen self.old) result (seen self.new) }
-        ensures step { SendStep W.known W.grows W.failures W.room W.memory (seen self.old) result (seen self.new)
-            (prefix_bytes (pos 0)) 8 }
-        ensures ok { OnOk result (((seen self.old).state ≡ Started) × ((seen self.new).state ≡ Finished)) }
-        ensures only { IfErr result (RefusesFinish (seen self.old).state) }
-        ensures means { Remains W.known W.memory (seen self.old) (seen self.new) }
+        ensures { FinishesStream W.device (seen self.old) result (seen self.new) }
     {
         check_started(self.state)?;
         match send_mark(&mut self.writer) {

@@ -65,6 +65,7 @@ pub record IsSame (a b : Column) : Type 0 where
 -- ---- the arrays without children
 
 -- Slot i of an array of nulls.
+
 abbrev pub null_at : NullSeen → ℕ → Slot
 null_at a i = null_slot
 
@@ -115,6 +116,7 @@ text_column a = column_by a.type (span_count a.offsets) (text_at a)
 -- ---- equality, as a test
 
 -- Equality of numbers.
+
 abbrev pub same_number : Number → Number → Bool
 same_number (whole x) (whole y) = int_eq x y
 same_number (wide high low) (wide top bottom) = int_eq high top && nat_eq low bottom

@@ -12,11 +12,11 @@
 
 use crate::decoder::Decoder;
 use crate::types::{optional_ids, optional_text};
+use ipc_table_views::{DateUnit, IntervalUnit, Precision, TimeUnit, UnionMode};
 use ipc_tables::types::{
     Date, Decimal, Duration, FieldType, FixedSizeBinary, FixedSizeList, FloatingPoint, Int,
     Interval, Map, Time, Timestamp, Union,
 };
-use ipc_table_views::{DateUnit, IntervalUnit, Precision, TimeUnit, UnionMode};
 use serde_json::Value;
 
 /// A type.

@@ -3,7 +3,7 @@ ghost use Rattle.std.specs.Prelude.{◌≡◌, [], map, IfErr, IfOk, OnOk};
 ghost use Rattle.lower.specs.TypeViews.{fields_view, pairs_of};
 ghost use Rattle.lower_arrays.specs.AnyLayouts.{layout_of};
 ghost use Rattle.ipc_devices.specs.Faults.{OwnFault};
-ghost use Rattle.ipc_model.specs.OfferRows.{demo, integers_are};
+ghost use Rattle.ipc_model.specs.Samples.{demo, integers_are};
 ghost use Rattle.ipc_programs.specs.Demo.{demo_fields};
 ghost use Rattle.ipc_programs.specs.Printing.{Prints};
 
@@ -21,7 +21,7 @@ const ROOM: usize = 4096;
 /// Prints the example, as a stream. The errors are `Memory` and `Io`.
 pub fn put_demo<W: Writes>(alloc: Global, printer: &mut Printer<W>) -> Result<(), Fault>
     ensures only { IfErr result (λ e. OwnFault e ⊥) }
-    ensures prints { OnOk result (Prints W.known W.failures W.memory printer.old printer.new) }
+    ensures prints { OnOk result (Prints W.device printer.old printer.new) }
 {
     let mut stream = Vec::with_capacity(alloc, ROOM)?;
     write_demo(alloc, &mut stream)?;

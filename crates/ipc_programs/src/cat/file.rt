@@ -8,7 +8,7 @@ ghost use Rattle.ipc_file_round_trip.specs.Steps.{GivesThenFails};
 ghost use Rattle.ipc_programs.specs.Printing.{Prints};
 ghost use Rattle.ipc_programs.specs.Shown.{GaveBlocks, ReadsFile};
 ghost use Rattle.ipc_programs.specs.CatWords.{NamesNumbers, columns_by};
-ghost use Rattle.ipc_programs.specs.CatRefusals.{FileHasOthers, OpensFile, ShowsNoFile};
+ghost use Rattle.ipc_programs.specs.CatRefusals.{FileHasOthers, OpensFile, ShowFileCause};
 ghost use Rattle.ipc_programs.specs.declared.cat.show.Outcome.TheVariants.{Done, WrongWords};
 
 use crate::cat::chosen::{Chosen, chosen_among};
@@ -30,10 +30,13 @@ pub fn show_file<F: Reads + Seeks + Drop, W: Writes>(
     printer: &mut Printer<W>,
 ) -> Result<Outcome, Fault>
     requires { NamesNumbers words.columns }
-    ensures shown { IfOk result (λ outcome. outcome ≡ Done → ReadsFile F.known F.memory file (columns_by words.entry.columns) words.entry.limit) }
-    ensures wrong { IfOk result (λ outcome. outcome ≡ WrongWords → FileHasOthers F.known F.memory file (columns_by words.entry.columns)) }
-    ensures refused { IfErr result (λ e. OwnFault e (ShowsNoFile F.known F.memory file (columns_by words.entry.columns) words.entry.limit e)) }
-    ensures prints { OnOk result (Prints W.known W.failures W.memory printer.old printer.new) }
+    ensures shown { IfOk result (λ outcome. outcome ≡ Done
+        → ReadsFile F.device file (columns_by words.entry.columns) words.entry.limit) }
+    ensures wrong { IfOk result (λ outcome. outcome ≡ WrongWords
+        → FileHasOthers F.device file (columns_by words.entry.columns)) }
+    ensures refused { IfErr result (λ e. OwnFault e
+        (ShowFileCause F.device file (columns_by words.entry.columns) words.entry.limit e)) }
+    ensures prints { OnOk result (Prints W.device printer.old printer.new) }
 {
     let Some(mut reader) = open_file(alloc, file, words)? else {
         return Ok(Outcome::WrongWords);
@@ -51,9 +54,12 @@ fn open_file<F: Reads + Seeks + Drop>(
     words: FileWords<'_>,
 ) -> Result<Option<FileReader<F>>, Fault>
     requires { NamesNumbers words.columns }
-    ensures wrong { IfOk result (λ reader. reader ≡ None → FileHasOthers F.known F.memory file (columns_by words.entry.columns)) }
-    ensures opens { IfOk result (λ reader. IfSome reader (OpensFile F.known F.memory file (columns_by words.entry.columns) words.entry.limit)) }
-    ensures refused { IfErr result (λ e. OwnFault e (ShowsNoFile F.known F.memory file (columns_by words.entry.columns) words.entry.limit e)) }
+    ensures wrong { IfOk result (λ reader. reader ≡ None
+        → FileHasOthers F.device file (columns_by words.entry.columns)) }
+    ensures opens { IfOk result (λ reader. IfSome reader
+        (OpensFile F.device file (columns_by words.entry.columns) words.entry.limit)) }
+    ensures refused { IfErr result (λ e. OwnFault e
+        (ShowFileCause F.device file (columns_by words.entry.columns) words.entry.limit e)) }
 {
     let mut file = file;
     let metadata = read_file_metadata(alloc, &mut file)?;
@@ -70,9 +76,9 @@ fn show_blocks<F: Reads + Seeks + Drop, W: Writes>(
     reader: &mut FileReader<F>,
     printer: &mut Printer<W>,
 ) -> Result<(), Fault>
-    ensures shown { IfOk result (λ _. GaveBlocks F.known F.still F.memory F.failures F.given reader.old) }
-    ensures broken { IfErr result (λ e. OwnFault e (GivesThenFails F.known F.still F.memory F.failures F.given reader.old e)) }
-    ensures prints { OnOk result (Prints W.known W.failures W.memory printer.old printer.new) }
+    ensures shown { IfOk result (λ _. GaveBlocks F.device reader.old) }
+    ensures broken { IfErr result (λ e. OwnFault e (GivesThenFails F.device reader.old e)) }
+    ensures prints { OnOk result (Prints W.device printer.old printer.new) }
 {
     while show_block(reader, printer)? {}
     Ok(())
@@ -83,11 +89,15 @@ fn show_block<F: Reads + Seeks + Drop, W: Writes>(
     reader: &mut FileReader<F>,
     printer: &mut Printer<W>,
 ) -> Result<bool, Fault>
-    ensures shown { IfOk result (λ more. IsTrue more → (chunk : List Array) × NextStep F.known F.still F.memory F.failures F.given reader.old (Some (Ok chunk)) reader.new) }
-    ensures all { IfOk result (λ more. more ≡ false → NextStep F.known F.still F.memory F.failures F.given reader.old None reader.new) }
+    ensures shown { IfOk result (λ more. IsTrue more
+        → (chunk : List Array)
+        × NextStep F.device reader.old (Some (Ok chunk)) reader.new) }
+    ensures all { IfOk result (λ more. more ≡ false
+        → NextStep F.device reader.old None reader.new) }
     ensures fewer { IfOk result (λ more. IsTrue more → blocks_left reader.new < blocks_left reader.old) }
-    ensures broken { IfErr result (λ e. OwnFault e ((left : Reader F) × NextStep F.known F.still F.memory F.failures F.given reader.old (Some (Err e)) left)) }
-    ensures prints { OnOk result (Prints W.known W.failures W.memory printer.old printer.new) }
+    ensures broken { IfErr result (λ e. OwnFault e ((left : Reader F)
+        × NextStep F.device reader.old (Some (Err e)) left)) }
+    ensures prints { OnOk result (Prints W.device printer.old printer.new) }
 {
     let Some(next) = reader.next() else {
         return Ok(false);

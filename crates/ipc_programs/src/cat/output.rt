@@ -34,8 +34,7 @@ impl<'a, W: Writes> Output<'a, W> {
 
     /// Writes all of these bytes. `Io` if a write fails; a prefix of the bytes was written then.
     pub fn write_all(&mut self, bytes: &[u8]) -> Result<(), Fault>
-        ensures { WritesOutput W.known W.grows W.failures W.memory self.old result self.new
-            bytes.now }
+        ensures { WritesOutput W.device self.old result self.new bytes.now }
     {
         self.is_flushed = false;
         write_all(&mut *self.device, bytes)
@@ -43,7 +42,7 @@ impl<'a, W: Writes> Output<'a, W> {
 
     /// Flushes the device. `Io` if that fails.
     pub fn flush(&mut self) -> Result<(), Fault>
-        ensures { FlushesOutput W.known W.failures W.memory self.old result self.new }
+        ensures { FlushesOutput W.device self.old result self.new }
     {
         self.device.flush()?;
         self.is_flushed = true;

@@ -44,9 +44,9 @@ impl<'a, W: Writes> Printer<'a, W> {
     /// `Memory` if they can't be buffered, which changes nothing. `Io` if sending fails; the buffer
     /// is empty then.
     pub fn put(&mut self, bytes: &[u8]) -> Result<(), Fault>
-        ensures puts { Puts W.known W.grows W.failures W.memory self.old result self.new bytes.now }
+        ensures puts { Puts W.device self.old result self.new bytes.now }
         ensures only { IfErr result (λ e. OwnFault e ⊥) }
-        ensures prints { OnOk result (Prints W.known W.failures W.memory self.old self.new) }
+        ensures prints { OnOk result (Prints W.device self.old self.new) }
     {
         if KEPT <= bytes.len() {
             self.send()?;
@@ -63,9 +63,9 @@ impl<'a, W: Writes> Printer<'a, W> {
     ///
     /// `Io` if that fails. Bytes that couldn't be sent are dropped: they aren't sent again.
     pub fn send(&mut self) -> Result<(), Fault>
-        ensures sends { SendsKept W.known W.grows W.failures W.memory self.old result self.new }
+        ensures sends { SendsKept W.device self.old result self.new }
         ensures only { IfErr result (λ e. OwnFault e ⊥) }
-        ensures all { OnOk result (PrintsAll W.known W.failures W.memory self.old self.new) }
+        ensures all { OnOk result (PrintsAll W.device self.old self.new) }
     {
         let sent = self.out.write_all(&self.kept);
         self.kept.clear();
@@ -77,7 +77,7 @@ impl<'a, W: Writes> Printer<'a, W> {
     /// Adds a byte as two hexadecimal digits.
     pub fn put_byte(&mut self, byte: u8) -> Result<(), Fault>
         ensures only { IfErr result (λ e. OwnFault e ⊥) }
-        ensures prints { OnOk result (Prints W.known W.failures W.memory self.old self.new) }
+        ensures prints { OnOk result (Prints W.device self.old self.new) }
     {
         self.put(&[hexadecimal(byte / 16), hexadecimal(byte % 16)])
     }
@@ -86,7 +86,7 @@ impl<'a, W: Writes> Printer<'a, W> {
 /// Prints an integer in decimal.
 pub fn put_number<W: Writes, N: Integer>(printer: &mut Printer<W>, number: N) -> Result<(), Fault>
     ensures only { IfErr result (λ e. OwnFault e ⊥) }
-    ensures prints { OnOk result (Prints W.known W.failures W.memory printer.old printer.new) }
+    ensures prints { OnOk result (Prints W.device printer.old printer.new) }
 {
     printer.put(Buffer::new().format(number).as_bytes())
 }
@@ -96,7 +96,7 @@ pub fn put_number<W: Writes, N: Integer>(printer: &mut Printer<W>, number: N) ->
 /// Quotes, backslashes and control bytes are printed as `\x` and two digits.
 pub fn put_text<W: Writes>(printer: &mut Printer<W>, text: &[u8]) -> Result<(), Fault>
     ensures only { IfErr result (λ e. OwnFault e ⊥) }
-    ensures prints { OnOk result (Prints W.known W.failures W.memory printer.old printer.new) }
+    ensures prints { OnOk result (Prints W.device printer.old printer.new) }
 {
     printer.put(b"\"")?;
     let mut start = 0;

@@ -1,10 +1,10 @@
 //! Prints a stream: its schema, and its chunks row by row.
 ghost use Rattle.std.specs.Prelude.{◌≡◌, IfErr, IfOk, IfSome, None, OnOk};
-ghost use Rattle.ipc_convert.specs.Sources.{StreamBreaks};
+ghost use Rattle.ipc_convert.specs.Sources.{NextOfStreamCause};
 ghost use Rattle.ipc_devices.specs.Faults.{OwnFault};
 ghost use Rattle.ipc_programs.specs.Printing.{Prints, PrintsAll};
 ghost use Rattle.ipc_programs.specs.CatWords.{NamesNumbers, columns_by};
-ghost use Rattle.ipc_programs.specs.CatRefusals.{OpensStream, ShowsNoStream, StreamHasOthers};
+ghost use Rattle.ipc_programs.specs.CatRefusals.{OpensStream, ShowStreamCause, StreamHasOthers};
 ghost use Rattle.ipc_programs.specs.Shown.{AllCame, GivesReadable, OneCame, StopsComing};
 ghost use Rattle.ipc_programs.specs.declared.cat.show.Outcome.TheVariants.{Done, WrongWords};
 
@@ -40,10 +40,13 @@ pub fn show_stream<R: Reads + Drop, W: Writes>(
     printer: &mut Printer<W>,
 ) -> Result<Outcome, Fault>
     requires { NamesNumbers columns }
-    ensures shown { IfOk result (λ outcome. outcome ≡ Done → GivesReadable R.gives input (columns_by columns.entry)) }
-    ensures wrong { IfOk result (λ outcome. outcome ≡ WrongWords → StreamHasOthers R.gives R.known R.memory input (columns_by columns.entry)) }
-    ensures refused { IfErr result (λ e. OwnFault e (ShowsNoStream R.gives R.known R.memory input (columns_by columns.entry) e)) }
-    ensures prints { OnOk result (Prints W.known W.failures W.memory printer.old printer.new) }
+    ensures shown { IfOk result (λ outcome. outcome ≡ Done
+        → GivesReadable R.gives input (columns_by columns.entry)) }
+    ensures wrong { IfOk result (λ outcome. outcome ≡ WrongWords
+        → StreamHasOthers R.gives R.device input (columns_by columns.entry)) }
+    ensures refused { IfErr result (λ e. OwnFault e
+        (ShowStreamCause R.gives R.device input (columns_by columns.entry) e)) }
+    ensures prints { OnOk result (Prints W.device printer.old printer.new) }
 {
     let Some(mut reader) = open_stream(alloc, input, columns)? else {
         return Ok(Outcome::WrongWords);
@@ -62,9 +65,11 @@ fn open_stream<R: Reads + Drop>(
     columns: Columns<'_>,
 ) -> Result<Option<StreamReader<R>>, Fault>
     requires { NamesNumbers columns }
-    ensures wrong { IfOk result (λ reader. reader ≡ None → StreamHasOthers R.gives R.known R.memory input (columns_by columns.entry)) }
+    ensures wrong { IfOk result (λ reader. reader ≡ None
+        → StreamHasOthers R.gives R.device input (columns_by columns.entry)) }
     ensures opens { IfOk result (λ reader. IfSome reader (OpensStream R.gives input (columns_by columns.entry))) }
-    ensures refused { IfErr result (λ e. OwnFault e (ShowsNoStream R.gives R.known R.memory input (columns_by columns.entry) e)) }
+    ensures refused { IfErr result (λ e. OwnFault e
+        (ShowStreamCause R.gives R.device input (columns_by columns.entry) e)) }
 {
     let mut input = input;
     let metadata = read_stream_metadata(alloc, &mut input)?;
@@ -83,7 +88,7 @@ fn show_chunks<R: Reads + Drop, W: Writes>(
 ) -> Result<Ending, Fault>
     ensures came { IfOk result (λ ending. AllCame R.gives reader.old ending reader.new) }
     ensures stops { IfErr result (λ e. OwnFault e (StopsComing R.gives reader.old e)) }
-    ensures prints { OnOk result (Prints W.known W.failures W.memory printer.old printer.new) }
+    ensures prints { OnOk result (Prints W.device printer.old printer.new) }
 {
     for _ in 0..u64::MAX {
         if let Some(ending) = show_chunk(reader, printer)? {
@@ -99,8 +104,8 @@ fn show_chunk<R: Reads + Drop, W: Writes>(
     printer: &mut Printer<W>,
 ) -> Result<Option<Ending>, Fault>
     ensures came { IfOk result (λ ending. OneCame R.gives reader.old ending reader.new) }
-    ensures broken { IfErr result (λ e. OwnFault e (StreamBreaks R.gives reader.old e)) }
-    ensures prints { OnOk result (Prints W.known W.failures W.memory printer.old printer.new) }
+    ensures broken { IfErr result (λ e. OwnFault e (NextOfStreamCause R.gives reader.old e)) }
+    ensures prints { OnOk result (Prints W.device printer.old printer.new) }
 {
     match reader.next_chunk()? {
         Next::Chunk(chunk) => {
@@ -114,7 +119,7 @@ fn show_chunk<R: Reads + Drop, W: Writes>(
 // Prints how the chunks ended.
 fn put_ending<W: Writes>(printer: &mut Printer<W>, ending: Ending) -> Result<(), Fault>
     ensures only { IfErr result (λ e. OwnFault e ⊥) }
-    ensures prints { OnOk result (Prints W.known W.failures W.memory printer.old printer.new) }
+    ensures prints { OnOk result (Prints W.device printer.old printer.new) }
 {
     match ending {
         Ending::Waits => printer.put(b"waiting\n"),
@@ -126,7 +131,7 @@ impl<'a, W: Writes> Printer<'a, W> {
     /// Prints a chunk row by row, and sends the buffer.
     pub fn take_chunk(&mut self, chunk: &Chunk<AnyArray>) -> Result<(), Fault>
         ensures only { IfErr result (λ e. OwnFault e ⊥) }
-        ensures all { OnOk result (PrintsAll W.known W.failures W.memory self.old self.new) }
+        ensures all { OnOk result (PrintsAll W.device self.old self.new) }
     {
         put_chunk(self, chunk)?;
         self.send()
@@ -136,7 +141,7 @@ impl<'a, W: Writes> Printer<'a, W> {
 /// Prints the names of these fields.
 pub fn put_schema<W: Writes>(printer: &mut Printer<W>, fields: &[Field]) -> Result<(), Fault>
     ensures only { IfErr result (λ e. OwnFault e ⊥) }
-    ensures prints { OnOk result (Prints W.known W.failures W.memory printer.old printer.new) }
+    ensures prints { OnOk result (Prints W.device printer.old printer.new) }
 {
     printer.put(b"schema ")?;
     put_number(printer, fields.len())?;
@@ -151,7 +156,7 @@ pub fn put_schema<W: Writes>(printer: &mut Printer<W>, fields: &[Field]) -> Resu
 /// Prints a chunk row by row.
 pub fn put_chunk<W: Writes>(printer: &mut Printer<W>, chunk: &Chunk<AnyArray>) -> Result<(), Fault>
     ensures only { IfErr result (λ e. OwnFault e ⊥) }
-    ensures prints { OnOk result (Prints W.known W.failures W.memory printer.old printer.new) }
+    ensures prints { OnOk result (Prints W.device printer.old printer.new) }
 {
     printer.put(b"chunk ")?;
     put_number(printer, chunk.len())?;
@@ -168,7 +173,7 @@ fn put_row<W: Writes>(
     row: usize,
 ) -> Result<(), Fault>
     ensures only { IfErr result (λ e. OwnFault e ⊥) }
-    ensures prints { OnOk result (Prints W.known W.failures W.memory printer.old printer.new) }
+    ensures prints { OnOk result (Prints W.device printer.old printer.new) }
 {
     for (column, array) in arrays.iter().enumerate() {
         put_tab(printer, column)?;
@@ -180,7 +185,7 @@ fn put_row<W: Writes>(
 // Prints the separator before each column but the first.
 fn put_tab<W: Writes>(printer: &mut Printer<W>, column: usize) -> Result<(), Fault>
     ensures only { IfErr result (λ e. OwnFault e ⊥) }
-    ensures prints { OnOk result (Prints W.known W.failures W.memory printer.old printer.new) }
+    ensures prints { OnOk result (Prints W.device printer.old printer.new) }
 {
     if column == 0 {
         return Ok(());
@@ -191,7 +196,7 @@ fn put_tab<W: Writes>(printer: &mut Printer<W>, column: usize) -> Result<(), Fau
 // Prints the value in a row. A row outside of the column, which no chunk has, prints as `null`.
 fn put_cell<W: Writes>(printer: &mut Printer<W>, array: &AnyArray, row: usize) -> Result<(), Fault>
     ensures only { IfErr result (λ e. OwnFault e ⊥) }
-    ensures prints { OnOk result (Prints W.known W.failures W.memory printer.old printer.new) }
+    ensures prints { OnOk result (Prints W.device printer.old printer.new) }
 {
     if row < array.len() {
         put_slot(printer, array, row)

@@ -27,7 +27,7 @@ pub fn put_slot<W: Writes>(
 ) -> Result<(), Fault>
     requires { index < len_of (layout_of array.now) }
     ensures only { IfErr result (λ e. OwnFault e ⊥) }
-    ensures prints { OnOk result (Prints W.known W.failures W.memory printer.old printer.new) }
+    ensures prints { OnOk result (Prints W.device printer.old printer.new) }
 {
     match value_at(array, index) {
         Value::Null => printer.put(b"null"),
@@ -53,7 +53,7 @@ fn put_nested<W: Writes>(
 ) -> Result<(), Fault>
     requires { NestedFits nesting children.now place }
     ensures only { IfErr result (λ e. OwnFault e ⊥) }
-    ensures prints { OnOk result (Prints W.known W.failures W.memory printer.old printer.new) }
+    ensures prints { OnOk result (Prints W.device printer.old printer.new) }
 {
     match nesting {
         Nesting::List(len) => put_list(printer, &children[0], place, len),
@@ -76,7 +76,7 @@ fn put_list<W: Writes>(
 ) -> Result<(), Fault>
     requires { place + len ≤ len_of (layout_of child.now) }
     ensures only { IfErr result (λ e. OwnFault e ⊥) }
-    ensures prints { OnOk result (Prints W.known W.failures W.memory printer.old printer.new) }
+    ensures prints { OnOk result (Prints W.device printer.old printer.new) }
 {
     // for the proof alone: `place + index` doesn't overflow, as the child has so many slots
     let _slots = child.len();
@@ -108,7 +108,7 @@ fn put_record<W: Writes>(
 ) -> Result<(), Fault>
     requires { AllReach (place + 1) (layouts (map layout_of children.now)) }
     ensures only { IfErr result (λ e. OwnFault e ⊥) }
-    ensures prints { OnOk result (Prints W.known W.failures W.memory printer.old printer.new) }
+    ensures prints { OnOk result (Prints W.device printer.old printer.new) }
 {
     printer.put(b"{")?;
     for index in 0..children.len() {
@@ -121,7 +121,7 @@ fn put_record<W: Writes>(
 // Prints the separator before each but the first.
 fn put_comma<W: Writes>(printer: &mut Printer<W>, index: usize) -> Result<(), Fault>
     ensures only { IfErr result (λ e. OwnFault e ⊥) }
-    ensures prints { OnOk result (Prints W.known W.failures W.memory printer.old printer.new) }
+    ensures prints { OnOk result (Prints W.device printer.old printer.new) }
 {
     if index == 0 {
         return Ok(());
@@ -132,7 +132,7 @@ fn put_comma<W: Writes>(printer: &mut Printer<W>, index: usize) -> Result<(), Fa
 // Prints an integer in decimal or, of 256 bits, in hexadecimal, and parts in parentheses.
 fn put_scalar<W: Writes>(printer: &mut Printer<W>, number: Scalar) -> Result<(), Fault>
     ensures only { IfErr result (λ e. OwnFault e ⊥) }
-    ensures prints { OnOk result (Prints W.known W.failures W.memory printer.old printer.new) }
+    ensures prints { OnOk result (Prints W.device printer.old printer.new) }
 {
     match number {
         Scalar::Whole(number) => put_number(printer, number),
@@ -159,7 +159,7 @@ fn put_scalar<W: Writes>(printer: &mut Printer<W>, number: Scalar) -> Result<(),
 // Prints a number of 256 bits: `0x` and 64 digits in two's complement, highest first.
 fn put_wide<W: Writes>(printer: &mut Printer<W>, number: i256) -> Result<(), Fault>
     ensures only { IfErr result (λ e. OwnFault e ⊥) }
-    ensures prints { OnOk result (Prints W.known W.failures W.memory printer.old printer.new) }
+    ensures prints { OnOk result (Prints W.device printer.old printer.new) }
 {
     printer.put(b"0x")?;
     put_digits(printer, &number.high.to_be_bytes())?;
@@ -169,7 +169,7 @@ fn put_wide<W: Writes>(printer: &mut Printer<W>, number: i256) -> Result<(), Fau
 // Prints each byte as two hexadecimal digits.
 fn put_digits<W: Writes>(printer: &mut Printer<W>, bytes: &[u8]) -> Result<(), Fault>
     ensures only { IfErr result (λ e. OwnFault e ⊥) }
-    ensures prints { OnOk result (Prints W.known W.failures W.memory printer.old printer.new) }
+    ensures prints { OnOk result (Prints W.device printer.old printer.new) }
 {
     for byte in bytes {
         printer.put_byte(*byte)?;

@@ -5,7 +5,7 @@ ghost use Rattle.ipc_model.specs.Streams.{marked};
 ghost use Rattle.ipc_write.specs.Writers.{order_of};
 ghost use Rattle.ipc_convert.specs.Chunks.{NoneFailed};
 ghost use Rattle.ipc_convert.specs.Copies.{AppendsTo, CopiesFileOf, CopiesStream, TakesStream, WritesFile, WritesStream};
-ghost use Rattle.ipc_programs.specs.Refusals.{AppendsNone, CopiesNoInput, CopiesNoOpened};
+ghost use Rattle.ipc_programs.specs.Refusals.{AppendInputCause, CopyInputCause, CopyOpenedCause};
 ghost use Rattle.ipc_programs.specs.Written.{CopiesInput, CopiesOpened};
 
 use crate::convert::forms::Target;
@@ -26,11 +26,12 @@ pub fn copy_input<R: Reads, O: Writes>(
     write_options: WriteOptions,
 ) -> Result<(), Fault>
     ensures takes { OnOk result (TakesStream R.gives input.old input.new) }
-    ensures done { OnOk result (R.failures input.new ≡ R.failures input.old) }
-    ensures copies { IsTrue O.known → OnOk result
-        (CopiesInput R.gives input.old input.new target write_options (O.memory out.old) (O.memory out.new)) }
+    ensures done { OnOk result (R.device.failures input.new ≡ R.device.failures input.old) }
+    ensures copies { IsTrue O.device.is_memory → OnOk result
+        (CopiesInput R.gives input.old input.new target write_options (O.device.memory out.old)
+        (O.device.memory out.new)) }
     ensures refused { IfErr result (λ e. OwnFault e
-        (CopiesNoInput R.gives R.known R.memory input.old O.known O.memory out.old target write_options e)) }
+        (CopyInputCause R.gives R.device input.old O.device out.old target write_options e)) }
 {
     match target {
         Target::Stream => input_to_stream(alloc, input, out, write_options),
@@ -46,10 +47,11 @@ pub fn copy_file<F: Reads + Seeks + Drop, O: Writes>(
     target: Target,
     write_options: WriteOptions,
 ) -> Result<(), Fault>
-    ensures copies { IsTrue O.known → OnOk result
-        (CopiesOpened F.known F.memory file target write_options (O.memory out.old) (O.memory out.new)) }
-    ensures refused { IfErr result (λ e. OwnFault e
-        (CopiesNoOpened F.known F.memory file O.known O.memory out.old target write_options e)) }
+    ensures copies { IsTrue O.device.is_memory → OnOk result
+        (CopiesOpened F.device file target write_options
+        (O.device.memory out.old) (O.device.memory out.new)) }
+    ensures refused { IfErr result (λ e. OwnFault e (CopyOpenedCause F.device file O.device
+        out.old target write_options e)) }
 {
     match target {
         Target::Stream => opened_to_stream(alloc, file, out, write_options),
@@ -65,10 +67,13 @@ pub fn append_input<F: Reads + Writes + Seeks + Drop, R: Reads>(
 ) -> Result<F, Fault>
     ensures takes { IfOk result (λ device. TakesStream R.gives input.old input.new) }
     ensures done { IfOk result (λ device.
-        NoneFailed F.failures R.failures file input.old device input.new) }
-    ensures appends { IsTrue F.known → (F.memory file).place ≡ 0 → IfOk result (λ device. CopiesStream R.gives input.old input.new
-        (λ schema chunks _. AppendsTo (F.memory file).whole (F.memory device).whole schema chunks)) }
-    ensures refused { IfErr result (λ e. OwnFault e (AppendsNone R.gives R.known R.memory input.old F.known F.memory file e)) }
+        NoneFailed F.device.failures R.device.failures file input.old device input.new) }
+    ensures appends { IsTrue F.device.is_memory → (F.device.memory file).place ≡ 0
+        → IfOk result (λ device. CopiesStream R.gives input.old input.new
+        (λ schema chunks _. AppendsTo (F.device.memory file).whole (F.device.memory device).whole
+        schema chunks)) }
+    ensures refused { IfErr result (λ e. OwnFault e
+        (AppendInputCause R.gives R.device input.old F.device file e)) }
 {
     let (file, input) = append_stream(alloc, file, LentReader::new(input))?;
     input.into_inner();
@@ -82,11 +87,14 @@ fn input_to_stream<R: Reads, O: Writes>(
     write_options: WriteOptions,
 ) -> Result<(), Fault>
     ensures takes { OnOk result (TakesStream R.gives input.old input.new) }
-    ensures done { OnOk result (R.failures input.new ≡ R.failures input.old) }
-    ensures copies { IsTrue O.known → OnOk result (CopiesStream R.gives input.old input.new
-        (WritesStream (order_of write_options) (O.memory out.old) (O.memory out.new))) }
+    ensures done { OnOk result (R.device.failures input.new ≡ R.device.failures input.old) }
+    ensures copies { IsTrue O.device.is_memory
+        → OnOk result (CopiesStream R.gives input.old input.new
+        (WritesStream (order_of write_options) (O.device.memory out.old)
+        (O.device.memory out.new))) }
     ensures refused { IfErr result (λ e. OwnFault e
-        (CopiesNoInput R.gives R.known R.memory input.old O.known O.memory out.old Target.Stream write_options e)) }
+        (CopyInputCause R.gives R.device input.old O.device out.old Target.Stream write_options
+        e)) }
 {
     let (input, out) = stream_to_stream(
         alloc,
@@ -106,11 +114,13 @@ fn input_to_file<R: Reads, O: Writes>(
     write_options: WriteOptions,
 ) -> Result<(), Fault>
     ensures takes { OnOk result (TakesStream R.gives input.old input.new) }
-    ensures done { OnOk result (R.failures input.new ≡ R.failures input.old) }
-    ensures copies { IsTrue O.known → OnOk result (CopiesStream R.gives input.old input.new
-        (λ schema chunks _. WritesFile (order_of write_options) (O.memory out.old) (O.memory out.new) schema [] chunks)) }
+    ensures done { OnOk result (R.device.failures input.new ≡ R.device.failures input.old) }
+    ensures copies { IsTrue O.device.is_memory
+        → OnOk result (CopiesStream R.gives input.old input.new
+        (λ schema chunks _. WritesFile (order_of write_options) (O.device.memory out.old)
+        (O.device.memory out.new) schema [] chunks)) }
     ensures refused { IfErr result (λ e. OwnFault e
-        (CopiesNoInput R.gives R.known R.memory input.old O.known O.memory out.old Target.File write_options e)) }
+        (CopyInputCause R.gives R.device input.old O.device out.old Target.File write_options e)) }
 {
     let (input, out) = stream_to_file(
         alloc,
@@ -129,10 +139,12 @@ fn opened_to_stream<F: Reads + Seeks + Drop, O: Writes>(
     out: &mut O,
     write_options: WriteOptions,
 ) -> Result<(), Fault>
-    ensures copies { IsTrue O.known → OnOk result (CopiesFileOf F.known F.memory file
-        (λ schema _ chunks. WritesStream (order_of write_options) (O.memory out.old) (O.memory out.new) schema chunks marked)) }
-    ensures refused { IfErr result (λ e. OwnFault e
-        (CopiesNoOpened F.known F.memory file O.known O.memory out.old Target.Stream write_options e)) }
+    ensures copies { IsTrue O.device.is_memory
+        → OnOk result (CopiesFileOf F.device file
+        (λ schema _ chunks. WritesStream (order_of write_options) (O.device.memory out.old)
+        (O.device.memory out.new) schema chunks marked)) }
+    ensures refused { IfErr result (λ e. OwnFault e (CopyOpenedCause F.device file O.device
+        out.old Target.Stream write_options e)) }
 {
     let (file, out) = file_to_stream(alloc, file, LentWriter::new(out), write_options)?;
     drop(file);
@@ -146,10 +158,11 @@ fn opened_to_file<F: Reads + Seeks + Drop, O: Writes>(
     out: &mut O,
     write_options: WriteOptions,
 ) -> Result<(), Fault>
-    ensures copies { IsTrue O.known → OnOk result (CopiesFileOf F.known F.memory file
-        (WritesFile (order_of write_options) (O.memory out.old) (O.memory out.new))) }
-    ensures refused { IfErr result (λ e. OwnFault e
-        (CopiesNoOpened F.known F.memory file O.known O.memory out.old Target.File write_options e)) }
+    ensures copies { IsTrue O.device.is_memory
+        → OnOk result (CopiesFileOf F.device file
+        (WritesFile (order_of write_options) (O.device.memory out.old) (O.device.memory out.new))) }
+    ensures refused { IfErr result (λ e. OwnFault e (CopyOpenedCause F.device file O.device
+        out.old Target.File write_options e)) }
 {
     let (file, out) = file_to_file(alloc, file, LentWriter::new(out), write_options)?;
     drop(file);

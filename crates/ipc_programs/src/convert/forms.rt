@@ -59,7 +59,8 @@ pub fn form_of(words: &[String]) -> Option<Form<'_>>
 
 /// The file that a form opens, if there is one.
 pub fn place_in(form: Form<'_>) -> Option<Place<'_>>
-    ensures { option_map (λ place. (place.path.now, place.is_written)) result ≡ place_for (wanted_by form.entry) }
+    ensures { option_map (λ place. (place.path.now, place.is_written)) result
+        ≡ place_for (wanted_by form.entry) }
 {
     match form {
         Form::Convert(Source::Input, _, _) => None,

@@ -6,6 +6,8 @@
 //! returned device is true of the borrowed one.
 ghost use Rattle.std.specs.Prelude.{◌≡◌, refl};
 ghost use Rattle.std.proofs.Common.{◌∙◌};
+ghost use Rattle.ipc_devices.specs.Device.{behind, through};
+ghost use Rattle.ipc_devices.specs.GivesLaws.{laws_behind};
 ghost use Rattle.ipc_programs.specs.Named.{named};
 
 use arrow2_ipc::io::ipc::fault::{Failures, Reads, Writes};
@@ -60,15 +62,7 @@ impl<'a, W> LentWriter<'a, W> {
 }
 
 impl<R: Failures> Failures for LentReader<'_, R> {
-    ghost known = { R.known };
-
-    ghost still = { R.still };
-
-    ghost memory = { λ d. R.memory d.device.now };
-
-    ghost failures = { λ d. R.failures d.device.now };
-
-    ghost given = { λ d. R.given d.device.now };
+    ghost device = { through (λ d. d.device) (behind R.device) };
 
     fn failures(&self) -> u64 {
         self.device.failures()
@@ -80,18 +74,16 @@ impl<R: Reads> Reads for LentReader<'_, R> {
 
     ghost shows = { λ a n. R.shows a.device.now n };
 
-    ghost gives_nothing = { λ a. (R.gives_nothing a.device.now, refl) };
-
-    ghost gives_in_order = { λ a xs b ys e c g h.
-        (R.gives_in_order a.device.now xs b.device.now ys e c.device.now g.0 h.0, h.1 ∙ g.1) };
-
-    ghost gives_counted = { λ a xs e b g. R.gives_counted a.device.now xs e b.device.now g.0 };
-
-    ghost gives_fails = { λ a xs e b g. R.gives_fails a.device.now xs e b.device.now g.0 };
-
-    ghost gives_ahead = { λ a xs e b k g. R.gives_ahead a.device.now xs e b.device.now k g.0 };
-
-    ghost gives_still = { λ a xs e b k g. R.gives_still a.device.now xs e b.device.now k g.0 };
+    ghost laws = { record {
+      nothing = λ a. (R.laws.nothing a.device.now, refl);
+      in_order = λ a xs b ys e c g h.
+          (R.laws.in_order a.device.now xs b.device.now ys e c.device.now g.0 h.0, h.1 ∙ g.1);
+      counted = λ a xs e b g. R.laws.counted a.device.now xs e b.device.now g.0;
+      fails = λ a xs e b g. R.laws.fails a.device.now xs e b.device.now g.0;
+      ahead = λ a xs e b k g. R.laws.ahead a.device.now xs e b.device.now k g.0;
+      still = λ a xs e b k g. R.laws.still a.device.now xs e b.device.now k g.0;
+      names = λ a xs e b g. (laws_behind R.device R.gives R.laws).names a.device xs e b.device g;
+    } };
 
     fn given(&self) -> u64 {
         self.device.given()
@@ -111,15 +103,9 @@ impl<R: Reads> Reads for LentReader<'_, R> {
 }
 
 impl<W: Failures> Failures for LentWriter<'_, W> {
-    ghost known = { W.known };
-
-    ghost still = { W.still };
-
-    ghost memory = { λ d. named d.device.ghost_name (W.memory d.device.now) };
-
-    ghost failures = { λ d. W.failures d.device.now };
-
-    ghost given = { λ d. W.given d.device.now };
+    ghost device = { record (through (λ d. d.device) (behind W.device)) {
+      memory = λ d. named d.device.ghost_name (W.device.memory d.device.now);
+    } };
 
     fn failures(&self) -> u64 {
         self.device.failures()
@@ -127,10 +113,6 @@ impl<W: Failures> Failures for LentWriter<'_, W> {
 }
 
 impl<W: Writes> Writes for LentWriter<'_, W> {
-    ghost grows = { W.grows };
-
-    ghost room = { λ d. W.room d.device.now };
-
     const GROWS: bool = W::GROWS;
 
     fn write(&mut self, buf: &[u8]) -> io::Result<usize> {

@@ -64,7 +64,8 @@ impl AskedColumns {
     ) -> Result<(AskedColumns, Vec<Field>), Fault>
         requires { IsProjection (Some projection.items) (length fields.now) }
         ensures columns { IfOk result (λ r. r.0.columns ≡ projection.items) }
-        ensures fields { IfOk result (λ r. map field_view r.1.items ≡ selected (map field_view fields.now) projection.items) }
+        ensures fields { IfOk result (λ r. map field_view r.1.items
+            ≡ selected (map field_view fields.now) projection.items) }
         ensures only { IfErr result (λ fault. fault ≡ Memory) }
     {
         let columns = Snapshot::of(&projection);

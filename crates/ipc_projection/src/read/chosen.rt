@@ -38,7 +38,8 @@ pub fn choose(
     requires { IsProjection (items_of projection) (length schema.now.fields.items) }
     ensures asked { IfOk result (λ c. asked_by c ≡ items_of projection) }
     ensures there { IfOk result (λ c. AreThere c (length schema.now.fields.items)) }
-    ensures shown { IfOk result (λ c. ShowsColumns (items_of projection) schema.now (shown_by schema.now c)) }
+    ensures shown { IfOk result (λ c.
+        ShowsColumns (items_of projection) schema.now (shown_by schema.now c)) }
     ensures only { IfErr result (λ e. (e ≡ Memory) × IsSome projection) }
 {
     let Some(projection) = projection else {

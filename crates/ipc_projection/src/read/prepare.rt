@@ -36,8 +36,10 @@ pub fn prepare_projection(
     projection: Vec<usize>,
 ) -> Result<(Vec<usize>, HashMap<usize, usize>, Vec<Field>), Fault>
     requires { IsProjection (Some projection.items) (length fields.now) }
-    ensures order { IfOk result (λ r. Prepares projection.items (length fields.now) r.0.items r.1) }
-    ensures fields { IfOk result (λ r. map field_view r.2.items ≡ selected (map field_view fields.now) projection.items) }
+    ensures order { IfOk result (λ r.
+        Prepares projection.items (length fields.now) r.0.items r.1) }
+    ensures fields { IfOk result (λ r. map field_view r.2.items
+        ≡ selected (map field_view fields.now) projection.items) }
     ensures only { IfErr result (λ fault. fault ≡ Memory) }
 {
     let prepared = prepared(alloc, fields, &projection)?;

@@ -276,7 +276,8 @@ impl<'a, I: Iterator> ProjectionIter<'a, I> {
     pub fn new(projection: &'a [usize], iter: I) -> Self
         requires { IsIncreasing projection.now }
         ensures source { result.source ≡ iter }
-        ensures chosen { (i : ℕ) → is_chosen result i ≡ list_any (λ j. i == j) projection.now }
+        ensures chosen { (i : ℕ)
+            → is_chosen result i ≡ list_any (λ j. i == j) projection.now }
     {
         ProjectionIter {
             projection,

@@ -1,37 +1,35 @@
 //! Reads batches.
-ghost use Rattle.std.specs.Prelude.{◌≡◌, ◌+◌, ◌≤◌, ◌<◌, ◌^◌, ◌↔◌, [], length, map, IfErr, IfOk, IsSome, Some, IsTrue};
+ghost use Rattle.std.specs.Prelude.{◌≡◌, ◌+◌, ◌≤◌, ◌<◌, ◌^◌, ◌↔◌, length, IfErr, IfOk, IsSome, Some, IsTrue};
 ghost use Rattle.std.specs.Option.{option_copied};
-ghost use Rattle.ipc_devices.specs.Device.{Rises};
-ghost use Rattle.ipc_devices.specs.Faults.{OnIo, UnlessIo, OwnFault, Answers};
+ghost use Rattle.ipc_devices.specs.Faults.{OnIo, OwnFault, Answers};
 ghost use Rattle.ipc_devices.specs.declared.fault.Fault.TheVariants.{OutOfSpec};
 ghost use Rattle.ipc_devices.specs.declared.fault.OutOfSpecKind.TheVariants.{NegativeFooterLength};
 ghost use Rattle.lower.specs.Counts.{nodes, fields_nodes, buffers, fields_buffers};
 ghost use Rattle.lower.specs.TypeViews.{type_view, fields_view};
-ghost use Rattle.lower_arrays.specs.AnyLayouts.{layout_of};
 ghost use Rattle.ipc_base.specs.IdTrees.{all_ids_view};
-ghost use Rattle.ipc_model.specs.Batches.{kinds, extra_of, lists_of, chosen};
+ghost use Rattle.ipc_model.specs.Batches.{extra_of, lists_of, chosen};
 ghost use Rattle.ipc_model.specs.Kinds.{all_nodes, all_buffers};
-ghost use Rattle.ipc_model.specs.ReadChunks.{HaveMeaning};
 ghost use Rattle.ipc_model.specs.TypeKinds.{kinds_of};
 ghost use Rattle.ipc_read_flat.specs.Limits.{AreSmall};
 ghost use Rattle.ipc_read_flat.specs.Refusals.{TellsEntries};
-ghost use Rattle.ipc_read_flat.specs.Bodies.{KeepsBytes, HasRoom, entries, known, known_dictionaries};
+ghost use Rattle.ipc_read_flat.specs.Bodies.{KeepsBytes, HasRoom, entries, known};
 ghost use Rattle.ipc_read_flat.specs.Steps.{Step};
-ghost use Rattle.ipc_read.specs.Chunks.{GivesBatch, batch_schema, chunk_seen, order_of};
+ghost use Rattle.ipc_read.specs.Api.{ReadsRecordBatch, batch_request};
+ghost use Rattle.ipc_read.specs.Chunks.{order_of};
 ghost use Rattle.ipc_read.specs.Columns.{ArePrepared, AreColumns, HasColumns, IsChosen, columns_listed};
-ghost use Rattle.ipc_read.specs.HeldChunks.{columns_most, arrays_held, HoldChosen};
-ghost use Rattle.ipc_read.specs.Refusals.{IsEntriesFault, IsListFault, IsFaultOfSome, IsFaultOfBatch, TellsBatch, TellsColumns, TellsCounts, TellsLengths, TellsTable};
-ghost use Rattle.ipc_read.specs.Sizes.{AreSizes, total_of, chosen_listed};
+ghost use Rattle.ipc_read.specs.HeldChunks.{columns_most, arrays_held};
+ghost use Rattle.ipc_read.specs.Refusals.{IsEntriesFault, IsListFault, IsFaultOfSome, TellsCounts, TellsLengths, TellsTable};
+ghost use Rattle.ipc_read.specs.Sizes.{AreSizes, total_of};
 
 use crate::read::Dictionaries;
 use ipc_base::chunk::Chunk;
 use ipc_base::ipc::{IpcField, IpcSchema};
-use ipc_read_nested::read::deserialize::read;
-use ipc_read_nested::read::ids::{child_of, others_of};
 use ipc_devices::fault::{Fault, Nyi, OutOfSpecKind};
 use ipc_devices::{Reads, Seeks};
 use ipc_read_flat::read::body::{Body, Place};
 use ipc_read_flat::read::read_basic::natural;
+use ipc_read_nested::read::deserialize::read;
+use ipc_read_nested::read::ids::{child_of, others_of};
 use ipc_table_views::{Buffers, MetadataVersion, Nodes, RecordBatchRef};
 use lower::datatypes::{
     DataType, Field, count_all_buffers, count_all_nodes, count_buffers, count_nodes,
@@ -189,21 +187,26 @@ pub fn read_columns<R: Reads + Seeks>(
     requires prepared { ArePrepared (option_copied projection) (length fields.now) }
     requires room { let ts = kinds_of (fields_view fields.now) (all_ids_view ids.now) in
         HasRoom body.now (record { node = 0; buffer = 0 }) (all_nodes ts) (all_buffers body.now.extra ts) }
-    requires stands { KeepsBytes R.still R.memory reader.old body.now }
+    requires stands { KeepsBytes R.device reader.old body.now }
     ensures many { IfOk result (λ v. length v.items ≡ length (chosen (option_copied projection.entry) (length fields.now))) }
     ensures only { let js = chosen (option_copied projection.entry) (length fields.now) in
         IfErr result (λ e. OwnFault e (IsFaultOfSome (kinds_of (fields_view fields.now) (all_ids_view ids.now)) js e)) }
-    ensures tells { IfErr result (λ e. OwnFault e (TellsEntries R.known (entries R.memory body.now) e)) }
+    ensures tells { IfErr result
+        (λ e. OwnFault e (TellsEntries R.device.is_memory (entries R.device body.now) e)) }
     ensures step { let js = chosen (option_copied projection.entry) (length fields.now) in
         let ts = kinds_of (fields_view fields.now) (all_ids_view ids.now) in
-        Step R.still R.memory R.failures R.given body.now (columns_listed (entries R.memory body.now) body.now.extra ts js) reader.old result reader.new }
+        Step R.device body.now
+        (columns_listed (entries R.device body.now) body.now.extra ts js) reader.old result
+        reader.new }
     ensures held { let js = chosen (option_copied projection.entry) (length fields.now) in
         let ts = kinds_of (fields_view fields.now) (all_ids_view ids.now) in
-        IfOk result (λ v. arrays_held v.items ≤ columns_most (entries R.memory body.now) body.now.extra ts js) }
-    ensures memory { IsTrue R.known → let s = entries R.memory body.now in
+        IfOk result (λ v. arrays_held v.items
+        ≤ columns_most (entries R.device body.now) body.now.extra ts js) }
+    ensures memory { IsTrue R.device.is_memory → let s = entries R.device body.now in
         let js = chosen (option_copied projection.entry) (length fields.now) in
         let ts = kinds_of (fields_view fields.now) (all_ids_view ids.now) in
-        Answers result (HasColumns s ts limit js) (λ v. AreColumns s (known body.now) (fields_view fields.now) ts limit js v.items) }
+        Answers result (HasColumns s ts limit js)
+        (λ v. AreColumns s (known body.now) (fields_view fields.now) ts limit js v.items) }
 {
     let wanted = match projection {
         None => fields.len(),
@@ -291,27 +294,11 @@ pub fn read_record_batch<R: Reads + Seeks>(
     _scratch: &mut Vec<u8>,
 ) -> Result<Chunk<AnyArray>, Fault>
     requires prepared { ArePrepared (option_copied projection) (length fields.now) }
-    ensures many { IfOk result (λ xs. length xs ≡ length (chosen (option_copied projection.entry) (length fields.now))) }
-    ensures only { let js = chosen (option_copied projection.entry) (length fields.now) in
-        IfErr result (λ e. OwnFault e (IsFaultOfBatch (kinds (batch_schema fields.now ipc_schema.now)) js e)) }
-    ensures lists { IfErr result (TellsBatch (batch_schema fields.now ipc_schema.now) (extra_of version) batch.entry file_size) }
-    ensures tells { IfErr result (TellsColumns R.known (order_of ipc_schema.now.is_little_endian) (extra_of version) (known_dictionaries dictionaries.now)
-        (record { source = (R.memory reader.old).whole; base = block_offset; size = file_size }) batch.entry) }
-    ensures monotone { R.failures reader.old ≤ R.failures reader.new }
-    ensures failed { OnIo result (Rises (R.failures reader.old) (R.failures reader.new)) }
-    ensures told { UnlessIo result (R.failures reader.new ≡ R.failures reader.old) }
-    ensures given { let js = chosen (option_copied projection.entry) (length fields.now) in
-        R.given reader.new ≤ R.given reader.old
-        + chosen_listed (lists_of batch.entry) (extra_of version) (kinds (batch_schema fields.now ipc_schema.now)) js }
-    ensures held { let js = chosen (option_copied projection.entry) (length fields.now) in
-        IfOk result (λ xs. HoldChosen file_size (lists_of batch.entry) (extra_of version) (kinds (batch_schema fields.now ipc_schema.now)) js xs) }
-    ensures memory { IsTrue R.known → GivesBatch (batch_schema fields.now ipc_schema.now) (extra_of version) (known_dictionaries dictionaries.now)
-        (record { source = (R.memory reader.old).whole; base = block_offset; size = file_size }) batch.entry
-        (option_copied projection.entry) limit result }
-    ensures values { IsTrue R.known → let js = chosen (option_copied projection.entry) (length fields.now) in
-        IfOk result (λ xs. HaveMeaning (known_dictionaries dictionaries.now) (all_ids_view ipc_schema.now.fields.items) js (chunk_seen xs) (map layout_of xs)) }
+    ensures batch { let js = option_copied projection.entry in
+        let q = batch_request fields.now ipc_schema.now dictionaries.now version block_offset
+        file_size batch.entry js limit in
+        ReadsRecordBatch R.device q reader.old result reader.new }
     ensures idle { _scratch.new ≡ _scratch.old }
-    ensures whole { IsTrue R.still → (R.memory reader.new).whole ≡ (R.memory reader.old).whole }
 {
     let (nodes, buffers) = entries_of(&batch)?;
     check_lengths(&buffers, file_size)?;

@@ -1,6 +1,5 @@
 //! Reads dictionary batches.
-ghost use Rattle.std.specs.Prelude.{◌≡◌, ◌+◌, ◌++◌, ◌≤◌, [], ◌∷◌, None, Some, IsSome, IfErr, IfOk, IsTrue, MatchOption, OnErr, OnOk};
-ghost use Rattle.std.specs.HashMap.{IsUnchanged};
+ghost use Rattle.std.specs.Prelude.{◌≡◌, ◌+◌, ◌++◌, ◌≤◌, [], ◌∷◌, None, Some, IsSome, IfErr, IfOk, IsTrue, MatchOption};
 ghost use Rattle.ipc_devices.specs.Device.{Rises};
 ghost use Rattle.ipc_devices.specs.Faults.{OnIo, UnlessIo, OwnFault, Answers};
 ghost use Rattle.lower.specs.Counts.{nodes, buffers};
@@ -8,21 +7,22 @@ ghost use Rattle.lower.specs.TypeViews.{type_view, fields_view};
 ghost use Rattle.ipc_base.specs.IdTrees.{all_ids_view};
 ghost use Rattle.ipc_model.specs.Batches.{kinds, extra_of, lists_of, own_place, inner_places, places, place_of, values_schema};
 ghost use Rattle.ipc_model.specs.TypeKinds.{kind_of};
-ghost use Rattle.ipc_read_flat.specs.Bodies.{array_under, known_dictionaries};
-ghost use Rattle.ipc_read.specs.Chunks.{batch_schema, order_of};
-ghost use Rattle.ipc_read.specs.DictionaryBatches.{GivesColumn, GivesDictionary, PutsCases, PutsValues, dictionary_head, values_listed, BlamesDictionary, IsHeadFault, IsValuesFault, IsDictionaryFault, RefusesHead, TellsValues, TellsOfValues};
-ghost use Rattle.ipc_read.specs.HeldChunks.{HoldChosen, HoldsValues};
+ghost use Rattle.ipc_read_flat.specs.Bodies.{known_dictionaries};
+ghost use Rattle.ipc_read.specs.Api.{ReadsDictionary, dictionary_request};
+ghost use Rattle.ipc_read.specs.Chunks.{order_of};
+ghost use Rattle.ipc_read.specs.DictionaryBatches.{GivesColumn, dictionary_head, IsHeadFault, IsValuesFault, RefusesHead};
+ghost use Rattle.ipc_read.specs.HeldChunks.{HoldChosen};
 ghost use Rattle.ipc_read.specs.Refusals.{IsEntriesFault, TellsColumns, TellsCounts, TellsLists};
 ghost use Rattle.ipc_read.specs.Sizes.{chosen_listed};
 
 use crate::read::Dictionaries;
 use crate::read::common::{byte_order, check_lengths, count_extra, entries_of};
 use ipc_base::ipc::{IpcField, IpcSchema};
-use ipc_read_nested::read::deserialize::read;
-use ipc_read_nested::read::ids::{first_of, others_of};
 use ipc_devices::fault::{Fault, Nyi, OutOfSpecKind};
 use ipc_devices::{Reads, Seeks};
 use ipc_read_flat::read::body::{Body, Place};
+use ipc_read_nested::read::deserialize::read;
+use ipc_read_nested::read::ids::{first_of, others_of};
 use ipc_table_views::{DictionaryBatchRef, MetadataVersion, RecordBatchRef};
 use lower::datatypes::{DataType, Field, count_buffers, count_nodes};
 use lower_arrays::array::AnyArray;
@@ -130,20 +130,31 @@ fn read_values<R: Reads + Seeks>(
 ) -> Result<AnyArray, Fault>
     ensures only { IfErr result (λ e. OwnFault e (IsValuesFault (kind_of (type_view value_type.now) None (all_ids_view ids.now)) e)) }
     ensures lists { let t = type_view value_type.now in IfErr result (TellsLists batch.entry file_size (nodes t) (buffers (extra_of version) t)) }
-    ensures tells { IfErr result (TellsColumns R.known (order_of is_little_endian) (extra_of version) (known_dictionaries dictionaries.now)
-        (record { source = (R.memory reader.old).whole; base = block_offset; size = file_size }) batch.entry) }
-    ensures monotone { R.failures reader.old ≤ R.failures reader.new }
-    ensures failed { OnIo result (Rises (R.failures reader.old) (R.failures reader.new)) }
-    ensures told { UnlessIo result (R.failures reader.new ≡ R.failures reader.old) }
+    ensures tells { IfErr result
+        (TellsColumns R.device.is_memory (order_of is_little_endian) (extra_of version)
+        (known_dictionaries dictionaries.now)
+        (record
+        { source = (R.device.memory reader.old).whole; base = block_offset; size = file_size })
+        batch.entry) }
+    ensures monotone { R.device.failures reader.old ≤ R.device.failures reader.new }
+    ensures failed { OnIo result
+        (Rises (R.device.failures reader.old) (R.device.failures reader.new)) }
+    ensures told { UnlessIo result (R.device.failures reader.new ≡ R.device.failures reader.old) }
     ensures given { let schema = values_schema (record { id = None; type = type_view value_type.now; ids = all_ids_view ids.now }) (order_of is_little_endian) in
-        R.given reader.new ≤ R.given reader.old + chosen_listed (lists_of batch.entry) (extra_of version) (kinds schema) (0 ∷ []) }
+        R.device.given reader.new
+        ≤ R.device.given reader.old
+        + chosen_listed (lists_of batch.entry) (extra_of version) (kinds schema) (0 ∷ []) }
     ensures held { let schema = values_schema (record { id = None; type = type_view value_type.now; ids = all_ids_view ids.now }) (order_of is_little_endian) in
         IfOk result (λ x. HoldChosen file_size (lists_of batch.entry) (extra_of version) (kinds schema) (0 ∷ []) (x ∷ [])) }
-    ensures memory { IsTrue R.known → let u = type_view value_type.now in
+    ensures memory { IsTrue R.device.is_memory → let u = type_view value_type.now in
         let schema = values_schema (record { id = None; type = u; ids = all_ids_view ids.now }) (order_of is_little_endian) in
         GivesColumn schema (extra_of version) (known_dictionaries dictionaries.now)
-        (record { source = (R.memory reader.old).whole; base = block_offset; size = file_size }) batch.entry u result }
-    ensures whole { IsTrue R.still → (R.memory reader.new).whole ≡ (R.memory reader.old).whole }
+        (record
+        { source = (R.device.memory reader.old).whole; base = block_offset; size = file_size })
+        batch.entry u result }
+    ensures whole { IsTrue R.device.is_read_only
+        → (R.device.memory reader.new).whole ≡ (R.device.memory reader.old).whole }
+    ensures names { R.device.names reader.new ≡ R.device.names reader.old }
 {
     let (nodes, buffers) = entries_of(&batch)?;
     check_lengths(&buffers, file_size)?;
@@ -238,25 +249,11 @@ pub fn read_dictionary<R: Reads + Seeks>(
     file_size: u64,
     _scratch: &mut Vec<u8>,
 ) -> Result<(), Fault>
-    ensures only { IfErr result (λ e. OwnFault e (IsDictionaryFault e)) }
-    ensures blames { IfErr result (λ e. OwnFault e (BlamesDictionary (batch_schema fields.now ipc_schema.now) batch.entry e)) }
-    ensures lists { IfErr result (TellsValues (batch_schema fields.now ipc_schema.now) (extra_of version) batch.entry file_size) }
-    ensures tells { IfErr result (TellsOfValues R.known (batch_schema fields.now ipc_schema.now) (extra_of version) (known_dictionaries dictionaries.old)
-        (record { source = (R.memory reader.old).whole; base = block_offset; size = file_size }) batch.entry) }
-    ensures monotone { R.failures reader.old ≤ R.failures reader.new }
-    ensures failed { OnIo result (Rises (R.failures reader.old) (R.failures reader.new)) }
-    ensures told { UnlessIo result (R.failures reader.new ≡ R.failures reader.old) }
-    ensures given { R.given reader.new ≤ R.given reader.old + values_listed (batch_schema fields.now ipc_schema.now) (extra_of version) batch.entry }
-    ensures memory { IsTrue R.known → GivesDictionary (batch_schema fields.now ipc_schema.now) (extra_of version) (known_dictionaries dictionaries.old)
-        (record { source = (R.memory reader.old).whole; base = block_offset; size = file_size }) batch.entry result (known_dictionaries dictionaries.new) }
-    ensures held { OnOk result (HoldsValues file_size (batch_schema fields.now ipc_schema.now) (extra_of version) batch.entry
-        (λ id. array_under dictionaries.old id) (λ id. array_under dictionaries.new id)) }
-    ensures cases { OnOk result (IsTrue R.known
-        → PutsCases batch.entry (λ id. array_under dictionaries.new id)) }
-    ensures put { OnOk result (PutsValues R.known (batch_schema fields.now ipc_schema.now) batch.entry (known_dictionaries dictionaries.old) (known_dictionaries dictionaries.new)) }
-    ensures kept { OnErr result (IsUnchanged dictionaries.old dictionaries.new) }
+    ensures dictionary { let q = dictionary_request fields.now ipc_schema.now version block_offset
+        file_size batch.entry in
+        ReadsDictionary R.device q reader.old dictionaries.old result reader.new
+        dictionaries.new }
     ensures idle { _scratch.new ≡ _scratch.old }
-    ensures whole { IsTrue R.still → (R.memory reader.new).whole ≡ (R.memory reader.old).whole }
 {
     let (id, values) = head_of(&batch)?;
     let schema_ids = ipc_schema.fields.as_slice();

@@ -43,17 +43,22 @@ pub fn read_flat<R: Reads + Seeks>(
     requires lies { physical (type_view data_type.now) ≡ physical_type }
     requires flat { IsFlat physical_type }
     requires room { let t = flat_kind physical_type (byte_size (type_view data_type.now)) in HasRoom body.now place (nodes t) (buffers body.now.extra t) }
-    requires stands { KeepsBytes R.still R.memory reader.old body.now }
+    requires stands { KeepsBytes R.device reader.old body.now }
     ensures only { let t = flat_kind physical_type (byte_size (type_view data_type.now)) in IfErr result (λ e. OwnFault e (IsFaultOf t e)) }
-    ensures tells { IfErr result (λ e. OwnFault e (TellsEntries R.known (entries R.memory body.now) e)) }
+    ensures tells { IfErr result
+        (λ e. OwnFault e (TellsEntries R.device.is_memory (entries R.device body.now) e)) }
     ensures step { let t = flat_kind physical_type (byte_size (type_view data_type.now)) in
-        Step R.still R.memory R.failures R.given body.now (listed_in (entries R.memory body.now) body.now.extra t place.buffer) reader.old result reader.new }
+        Step R.device body.now
+        (listed_in (entries R.device body.now) body.now.extra t place.buffer) reader.old
+        result reader.new }
     ensures held { let t = flat_kind physical_type (byte_size (type_view data_type.now)) in
-        IfOk result (λ array. HoldsListed (entries R.memory body.now) body.now.extra t place.buffer (layout_of array)) }
-    ensures memory { IsTrue R.known → let s = entries R.memory body.now in
+        IfOk result (λ array. HoldsListed (entries R.device body.now) body.now.extra t place.buffer
+        (layout_of array)) }
+    ensures memory { IsTrue R.device.is_memory → let s = entries R.device body.now in
         let t = flat_kind physical_type (byte_size (type_view data_type.now)) in
         Answers result (IsWell s t place.node place.buffer limit)
-        (λ array. layout_of array ≡ array_at s (known body.now) t (type_view data_type.now) place.node place.buffer limit) }
+        (λ array. layout_of array ≡ array_at s (known body.now) t (type_view data_type.now)
+        place.node place.buffer limit) }
 {
     match physical_type {
         PhysicalType::Null => Ok(AnyArray::Null(read_null(data_type, body, place, limit)?)),

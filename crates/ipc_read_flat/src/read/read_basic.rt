@@ -64,14 +64,19 @@ pub fn read_numbers<T: NativeType, R: Reads>(
 ) -> Result<Vec<T>, Fault>
     ensures count { IfOk result (λ v. vec_len v ≡ count) }
     ensures only { IfErr result (λ e. OwnFault e (e ≡ Ended)) }
-    ensures monotone { R.failures reader.old ≤ R.failures reader.new }
-    ensures failed { OnIo result (Rises (R.failures reader.old) (R.failures reader.new)) }
-    ensures told { UnlessIo result (R.failures reader.new ≡ R.failures reader.old) }
-    ensures given { R.given reader.new ≤ R.given reader.old + T.width * count }
-    ensures memory { IsTrue R.known → Answers result
-        (T.width * count ≤ length (after (R.memory reader.old)))
-        (λ v. v.items ≡ values_of (T.value order) T.width (take (T.width * count) (after (R.memory reader.old)))) }
-    ensures whole { IsTrue R.still → (R.memory reader.new).whole ≡ (R.memory reader.old).whole }
+    ensures monotone { R.device.failures reader.old ≤ R.device.failures reader.new }
+    ensures failed { OnIo result
+        (Rises (R.device.failures reader.old) (R.device.failures reader.new)) }
+    ensures told { UnlessIo result (R.device.failures reader.new ≡ R.device.failures reader.old) }
+    ensures given { R.device.given reader.new ≤ R.device.given reader.old + T.width * count }
+    ensures memory { IsTrue R.device.is_memory → Answers result
+        (T.width * count ≤ length (after (R.device.memory reader.old)))
+        (λ v. v.items
+        ≡ values_of (T.value order) T.width
+        (take (T.width * count) (after (R.device.memory reader.old)))) }
+    ensures whole { IsTrue R.device.is_read_only
+        → (R.device.memory reader.new).whole ≡ (R.device.memory reader.old).whole }
+    ensures names { R.device.names reader.new ≡ R.device.names reader.old }
 {
     match take_shown(alloc, reader, count, order)? {
         Some(numbers) => Ok(numbers),
@@ -89,16 +94,22 @@ fn take_shown<T: NativeType, R: Reads>(
 ) -> Result<Option<Vec<T>>, Fault>
     ensures count { IfOk result (λ r. IfSome r (λ v. vec_len v ≡ count)) }
     ensures only { IfErr result (λ e. OwnFault e ⊥) }
-    ensures monotone { R.failures reader.old ≤ R.failures reader.new }
-    ensures failed { OnIo result (Rises (R.failures reader.old) (R.failures reader.new)) }
-    ensures told { UnlessIo result (R.failures reader.new ≡ R.failures reader.old) }
-    ensures given { R.given reader.new ≤ R.given reader.old + T.width * count }
+    ensures monotone { R.device.failures reader.old ≤ R.device.failures reader.new }
+    ensures failed { OnIo result
+        (Rises (R.device.failures reader.old) (R.device.failures reader.new)) }
+    ensures told { UnlessIo result (R.device.failures reader.new ≡ R.device.failures reader.old) }
+    ensures given { R.device.given reader.new ≤ R.device.given reader.old + T.width * count }
     ensures none { IfOk result (λ r. IsNone r → R.gives reader.old [] going reader.new) }
-    ensures idle { IfOk result (λ r. IsNone r → R.given reader.new ≤ R.given reader.old) }
-    ensures memory { IsTrue R.known → IfOk result (λ r. IfSome r (λ v.
-        (T.width * count ≤ length (after (R.memory reader.old)))
-        × (v.items ≡ values_of (T.value order) T.width (take (T.width * count) (after (R.memory reader.old)))))) }
-    ensures whole { IsTrue R.still → (R.memory reader.new).whole ≡ (R.memory reader.old).whole }
+    ensures idle { IfOk result
+        (λ r. IsNone r → R.device.given reader.new ≤ R.device.given reader.old) }
+    ensures memory { IsTrue R.device.is_memory → IfOk result (λ r. IfSome r (λ v.
+        (T.width * count ≤ length (after (R.device.memory reader.old)))
+        × (v.items
+        ≡ values_of (T.value order) T.width
+        (take (T.width * count) (after (R.device.memory reader.old)))))) }
+    ensures whole { IsTrue R.device.is_read_only
+        → (R.device.memory reader.new).whole ≡ (R.device.memory reader.old).whole }
+    ensures names { R.device.names reader.new ≡ R.device.names reader.old }
 {
     let Some(length) = count.checked_mul(T::width()) else {
         return Ok(None);
@@ -125,14 +136,19 @@ fn read_pieces<T: NativeType, R: Reads>(
 ) -> Result<Vec<T>, Fault>
     ensures count { IfOk result (λ v. vec_len v ≡ count) }
     ensures only { IfErr result (λ e. OwnFault e (e ≡ Ended)) }
-    ensures monotone { R.failures reader.old ≤ R.failures reader.new }
-    ensures failed { OnIo result (Rises (R.failures reader.old) (R.failures reader.new)) }
-    ensures told { UnlessIo result (R.failures reader.new ≡ R.failures reader.old) }
-    ensures given { R.given reader.new ≤ R.given reader.old + T.width * count }
-    ensures memory { IsTrue R.known → Answers result
-        (T.width * count ≤ length (after (R.memory reader.old)))
-        (λ v. v.items ≡ values_of (T.value order) T.width (take (T.width * count) (after (R.memory reader.old)))) }
-    ensures whole { IsTrue R.still → (R.memory reader.new).whole ≡ (R.memory reader.old).whole }
+    ensures monotone { R.device.failures reader.old ≤ R.device.failures reader.new }
+    ensures failed { OnIo result
+        (Rises (R.device.failures reader.old) (R.device.failures reader.new)) }
+    ensures told { UnlessIo result (R.device.failures reader.new ≡ R.device.failures reader.old) }
+    ensures given { R.device.given reader.new ≤ R.device.given reader.old + T.width * count }
+    ensures memory { IsTrue R.device.is_memory → Answers result
+        (T.width * count ≤ length (after (R.device.memory reader.old)))
+        (λ v. v.items
+        ≡ values_of (T.value order) T.width
+        (take (T.width * count) (after (R.device.memory reader.old)))) }
+    ensures whole { IsTrue R.device.is_read_only
+        → (R.device.memory reader.new).whole ≡ (R.device.memory reader.old).whole }
+    ensures names { R.device.names reader.new ≡ R.device.names reader.old }
 {
     let mut numbers = Vec::new(alloc);
     let mut block = [0u8; BLOCK];
@@ -158,15 +174,20 @@ fn take_shown_bytes<R: Reads>(
 ) -> Result<Option<Vec<u8>>, Fault>
     ensures count { IfOk result (λ r. IfSome r (λ v. length v.items ≡ count)) }
     ensures only { IfErr result (λ e. OwnFault e ⊥) }
-    ensures monotone { R.failures reader.old ≤ R.failures reader.new }
-    ensures failed { OnIo result (Rises (R.failures reader.old) (R.failures reader.new)) }
-    ensures told { UnlessIo result (R.failures reader.new ≡ R.failures reader.old) }
-    ensures given { R.given reader.new ≤ R.given reader.old + count }
+    ensures monotone { R.device.failures reader.old ≤ R.device.failures reader.new }
+    ensures failed { OnIo result
+        (Rises (R.device.failures reader.old) (R.device.failures reader.new)) }
+    ensures told { UnlessIo result (R.device.failures reader.new ≡ R.device.failures reader.old) }
+    ensures given { R.device.given reader.new ≤ R.device.given reader.old + count }
     ensures none { IfOk result (λ r. IsNone r → R.gives reader.old [] going reader.new) }
-    ensures idle { IfOk result (λ r. IsNone r → R.given reader.new ≤ R.given reader.old) }
-    ensures memory { IsTrue R.known → IfOk result (λ r. IfSome r (λ v.
-        (count ≤ length (after (R.memory reader.old))) × (v.items ≡ take count (after (R.memory reader.old))))) }
-    ensures whole { IsTrue R.still → (R.memory reader.new).whole ≡ (R.memory reader.old).whole }
+    ensures idle { IfOk result
+        (λ r. IsNone r → R.device.given reader.new ≤ R.device.given reader.old) }
+    ensures memory { IsTrue R.device.is_memory → IfOk result (λ r. IfSome r (λ v.
+        (count ≤ length (after (R.device.memory reader.old)))
+        × (v.items ≡ take count (after (R.device.memory reader.old))))) }
+    ensures whole { IsTrue R.device.is_read_only
+        → (R.device.memory reader.new).whole ≡ (R.device.memory reader.old).whole }
+    ensures names { R.device.names reader.new ≡ R.device.names reader.old }
 {
     // `given` is called for the proof alone: it states how many bytes `pass` read.
     let Some(bytes) = reader.pass(count) else {
@@ -183,14 +204,17 @@ fn read_next_bytes<R: Reads>(alloc: Global, reader: &mut R, count: usize) -> Res
     requires small { count < 2 ^ 63 }
     ensures count { IfOk result (λ v. length v.items ≡ count) }
     ensures only { IfErr result (λ e. OwnFault e (e ≡ Ended)) }
-    ensures monotone { R.failures reader.old ≤ R.failures reader.new }
-    ensures failed { OnIo result (Rises (R.failures reader.old) (R.failures reader.new)) }
-    ensures told { UnlessIo result (R.failures reader.new ≡ R.failures reader.old) }
-    ensures given { R.given reader.new ≤ R.given reader.old + count }
-    ensures memory { IsTrue R.known → Answers result
-        (count ≤ length (after (R.memory reader.old)))
-        (λ v. v.items ≡ take count (after (R.memory reader.old))) }
-    ensures whole { IsTrue R.still → (R.memory reader.new).whole ≡ (R.memory reader.old).whole }
+    ensures monotone { R.device.failures reader.old ≤ R.device.failures reader.new }
+    ensures failed { OnIo result
+        (Rises (R.device.failures reader.old) (R.device.failures reader.new)) }
+    ensures told { UnlessIo result (R.device.failures reader.new ≡ R.device.failures reader.old) }
+    ensures given { R.device.given reader.new ≤ R.device.given reader.old + count }
+    ensures memory { IsTrue R.device.is_memory → Answers result
+        (count ≤ length (after (R.device.memory reader.old)))
+        (λ v. v.items ≡ take count (after (R.device.memory reader.old))) }
+    ensures whole { IsTrue R.device.is_read_only
+        → (R.device.memory reader.new).whole ≡ (R.device.memory reader.old).whole }
+    ensures names { R.device.names reader.new ≡ R.device.names reader.old }
 {
     match take_shown_bytes(alloc, reader, count)? {
         Some(bytes) => Ok(bytes),
@@ -210,14 +234,19 @@ fn read_numbers_at<T: NativeType, R: Reads + Seeks>(
     requires { 0 < count }
     ensures count { IfOk result (λ v. vec_len v ≡ count) }
     ensures only { IfErr result (λ e. OwnFault e (e ≡ Ended)) }
-    ensures monotone { R.failures reader.old ≤ R.failures reader.new }
-    ensures failed { OnIo result (Rises (R.failures reader.old) (R.failures reader.new)) }
-    ensures told { UnlessIo result (R.failures reader.new ≡ R.failures reader.old) }
-    ensures given { R.given reader.new ≤ R.given reader.old + T.width * count }
-    ensures memory { IsTrue R.known → Answers result
-        (T.width * count ≤ length (drop (base + offset) (R.memory reader.old).whole))
-        (λ v. v.items ≡ values_of (T.value order) T.width (take (T.width * count) (drop (base + offset) (R.memory reader.old).whole))) }
-    ensures whole { IsTrue R.still → (R.memory reader.new).whole ≡ (R.memory reader.old).whole }
+    ensures monotone { R.device.failures reader.old ≤ R.device.failures reader.new }
+    ensures failed { OnIo result
+        (Rises (R.device.failures reader.old) (R.device.failures reader.new)) }
+    ensures told { UnlessIo result (R.device.failures reader.new ≡ R.device.failures reader.old) }
+    ensures given { R.device.given reader.new ≤ R.device.given reader.old + T.width * count }
+    ensures memory { IsTrue R.device.is_memory → Answers result
+        (T.width * count ≤ length (drop (base + offset) (R.device.memory reader.old).whole))
+        (λ v. v.items
+        ≡ values_of (T.value order) T.width
+        (take (T.width * count) (drop (base + offset) (R.device.memory reader.old).whole))) }
+    ensures whole { IsTrue R.device.is_read_only
+        → (R.device.memory reader.new).whole ≡ (R.device.memory reader.old).whole }
+    ensures names { R.device.names reader.new ≡ R.device.names reader.old }
 {
     let Some(place) = base.checked_add(offset as u64) else {
         // for the proof: the end of the device, a `u64`, is before this offset
@@ -240,14 +269,17 @@ fn read_bytes_at<R: Reads + Seeks>(
     requires small { count < 2 ^ 63 }
     ensures count { IfOk result (λ v. length v.items ≡ count) }
     ensures only { IfErr result (λ e. OwnFault e (e ≡ Ended)) }
-    ensures monotone { R.failures reader.old ≤ R.failures reader.new }
-    ensures failed { OnIo result (Rises (R.failures reader.old) (R.failures reader.new)) }
-    ensures told { UnlessIo result (R.failures reader.new ≡ R.failures reader.old) }
-    ensures given { R.given reader.new ≤ R.given reader.old + count }
-    ensures memory { IsTrue R.known → Answers result
-        (count ≤ length (drop (base + offset) (R.memory reader.old).whole))
-        (λ v. v.items ≡ take count (drop (base + offset) (R.memory reader.old).whole)) }
-    ensures whole { IsTrue R.still → (R.memory reader.new).whole ≡ (R.memory reader.old).whole }
+    ensures monotone { R.device.failures reader.old ≤ R.device.failures reader.new }
+    ensures failed { OnIo result
+        (Rises (R.device.failures reader.old) (R.device.failures reader.new)) }
+    ensures told { UnlessIo result (R.device.failures reader.new ≡ R.device.failures reader.old) }
+    ensures given { R.device.given reader.new ≤ R.device.given reader.old + count }
+    ensures memory { IsTrue R.device.is_memory → Answers result
+        (count ≤ length (drop (base + offset) (R.device.memory reader.old).whole))
+        (λ v. v.items ≡ take count (drop (base + offset) (R.device.memory reader.old).whole)) }
+    ensures whole { IsTrue R.device.is_read_only
+        → (R.device.memory reader.new).whole ≡ (R.device.memory reader.old).whole }
+    ensures names { R.device.names reader.new ≡ R.device.names reader.old }
 {
     let Some(place) = base.checked_add(offset as u64) else {
         // for the proof: the end of the device, a `u64`, is before this offset
@@ -316,16 +348,20 @@ pub fn fetch_numbers<T: NativeType, R: Reads + Seeks>(
     count: usize,
 ) -> Result<Vec<T>, Fault>
     requires inside { index < length body.now.buffers }
-    requires stands { KeepsBytes R.still R.memory reader.old body.now }
+    requires stands { KeepsBytes R.device reader.old body.now }
     ensures only { IfErr result (λ e. OwnFault e (IsBufferFault e)) }
-    ensures tells { IfErr result (λ e. OwnFault e (TellsEntries R.known (entries R.memory body.now) e)) }
-    ensures step { Step R.still R.memory R.failures R.given body.now (listed (entries R.memory body.now) index) reader.old result reader.new }
-    ensures needed { R.given reader.new ≤ R.given reader.old + T.width * count }
+    ensures tells { IfErr result
+        (λ e. OwnFault e (TellsEntries R.device.is_memory (entries R.device body.now) e)) }
+    ensures step { Step R.device
+        body.now (listed (entries R.device body.now) index) reader.old result reader.new }
+    ensures needed { R.device.given reader.new ≤ R.device.given reader.old + T.width * count }
     ensures count { IfOk result (λ v. vec_len v ≡ count) }
-    ensures held { IfOk result (λ v. T.width * vec_len v ≤ listed (entries R.memory body.now) index) }
-    ensures memory { IsTrue R.known → let s = entries R.memory body.now in
+    ensures held { IfOk result
+        (λ v. T.width * vec_len v ≤ listed (entries R.device body.now) index) }
+    ensures memory { IsTrue R.device.is_memory → let s = entries R.device body.now in
         Answers result (Need s index (T.width * count))
-        (λ v. v.items ≡ values_of (T.value body.now.order) T.width (take (T.width * count) (bytes s index))) }
+        (λ v. v.items ≡ values_of (T.value body.now.order) T.width
+        (take (T.width * count) (bytes s index))) }
 {
     let entry = body.buffers.get(index);
     let offset = natural(entry.offset)?;
@@ -352,14 +388,16 @@ pub fn fetch_bytes<R: Reads + Seeks>(
     count: usize,
 ) -> Result<Vec<u8>, Fault>
     requires inside { index < length body.now.buffers }
-    requires stands { KeepsBytes R.still R.memory reader.old body.now }
+    requires stands { KeepsBytes R.device reader.old body.now }
     ensures only { IfErr result (λ e. OwnFault e (IsBufferFault e)) }
-    ensures tells { IfErr result (λ e. OwnFault e (TellsEntries R.known (entries R.memory body.now) e)) }
-    ensures step { Step R.still R.memory R.failures R.given body.now (listed (entries R.memory body.now) index) reader.old result reader.new }
-    ensures needed { R.given reader.new ≤ R.given reader.old + count }
+    ensures tells { IfErr result
+        (λ e. OwnFault e (TellsEntries R.device.is_memory (entries R.device body.now) e)) }
+    ensures step { Step R.device
+        body.now (listed (entries R.device body.now) index) reader.old result reader.new }
+    ensures needed { R.device.given reader.new ≤ R.device.given reader.old + count }
     ensures count { IfOk result (λ v. length v.items ≡ count) }
-    ensures held { IfOk result (λ v. length v.items ≤ listed (entries R.memory body.now) index) }
-    ensures memory { IsTrue R.known → let s = entries R.memory body.now in
+    ensures held { IfOk result (λ v. length v.items ≤ listed (entries R.device body.now) index) }
+    ensures memory { IsTrue R.device.is_memory → let s = entries R.device body.now in
         Answers result (Need s index count) (λ v. v.items ≡ take count (bytes s index)) }
 {
     let entry = body.buffers.get(index);
@@ -388,15 +426,18 @@ pub fn fetch_pieces<R: Reads + Seeks>(
 ) -> Result<Vec<u8>, Fault>
     requires some { 0 < width }
     requires inside { index < length body.now.buffers }
-    requires stands { KeepsBytes R.still R.memory reader.old body.now }
+    requires stands { KeepsBytes R.device reader.old body.now }
     ensures only { IfErr result (λ e. OwnFault e (IsBufferFault e)) }
-    ensures tells { IfErr result (λ e. OwnFault e (TellsEntries R.known (entries R.memory body.now) e)) }
-    ensures step { Step R.still R.memory R.failures R.given body.now (listed (entries R.memory body.now) index) reader.old result reader.new }
-    ensures needed { R.given reader.new ≤ R.given reader.old + width * count }
+    ensures tells { IfErr result
+        (λ e. OwnFault e (TellsEntries R.device.is_memory (entries R.device body.now) e)) }
+    ensures step { Step R.device
+        body.now (listed (entries R.device body.now) index) reader.old result reader.new }
+    ensures needed { R.device.given reader.new ≤ R.device.given reader.old + width * count }
     ensures count { IfOk result (λ v. length v.items ≡ width * count) }
-    ensures held { IfOk result (λ v. length v.items ≤ listed (entries R.memory body.now) index) }
-    ensures memory { IsTrue R.known → let s = entries R.memory body.now in
-        Answers result (Need s index (width * count)) (λ v. v.items ≡ take (width * count) (bytes s index)) }
+    ensures held { IfOk result (λ v. length v.items ≤ listed (entries R.device body.now) index) }
+    ensures memory { IsTrue R.device.is_memory → let s = entries R.device body.now in
+        Answers result (Need s index (width * count))
+        (λ v. v.items ≡ take (width * count) (bytes s index)) }
 {
     let entry = body.buffers.get(index);
     let offset = natural(entry.offset)?;
@@ -459,13 +500,15 @@ pub fn read_node<R: Failures>(
 ) -> Result<Node, Fault>
     requires inside { index < length body.now.nodes }
     ensures only { IfErr result (λ e. OwnFault e (IsBufferFault e)) }
-    ensures tells { IfErr result (λ e. OwnFault e (TellsEntries R.known (entries R.memory body.now) e)) }
+    ensures tells { IfErr result
+        (λ e. OwnFault e (TellsEntries R.device.is_memory (entries R.device body.now) e)) }
     ensures negative { IfErr result (λ e. e ≡ OutOfSpec NegativeFooterLength) }
     ensures own { OnIo result ⊥ }
     ensures small { IfOk result (λ n. n.rows < 2 ^ 63) }
-    ensures exact { let s = entries R.memory body.now in
+    ensures exact { let s = entries R.device body.now in
         Answers result (IsSize (node s index).length)
-        (λ n. (n.rows ≡ rows s index limit) × MatchBool n.has_nulls (0 < size (node s index).null_count) (size (node s index).null_count ≡ 0)) }
+        (λ n. (n.rows ≡ rows s index limit) × MatchBool n.has_nulls
+        (0 < size (node s index).null_count) (size (node s index).null_count ≡ 0)) }
 {
     let node = body.nodes.get(index);
     let count = natural(node.length)?;
@@ -482,9 +525,11 @@ fn check_bits<R: Failures>(body: &Body<R>, index: usize, count: usize) -> Result
     requires small { count < 2 ^ 63 }
     ensures own { OnIo result ⊥ }
     ensures only { IfErr result (λ e. OwnFault e (IsBufferFault e)) }
-    ensures tells { IfErr result (λ e. OwnFault e (TellsEntries R.known (entries R.memory body.now) e)) }
+    ensures tells { IfErr result
+        (λ e. OwnFault e (TellsEntries R.device.is_memory (entries R.device body.now) e)) }
     ensures named { IfErr result IsBitsFault }
-    ensures refused { IfErr result (λ e. OwnFault e (Need (entries R.memory body.now) index (bytes_for count) → ⊥)) }
+    ensures refused { IfErr result (λ e. OwnFault e
+        (Need (entries R.device body.now) index (bytes_for count) → ⊥)) }
 {
     let entry = body.buffers.get(index);
     natural(entry.offset)?;
@@ -517,13 +562,16 @@ pub fn read_bits<R: Reads + Seeks>(
 ) -> Result<Bitmap, Fault>
     requires inside { index < length body.now.buffers }
     requires small { count < 2 ^ 63 }
-    requires stands { KeepsBytes R.still R.memory reader.old body.now }
+    requires stands { KeepsBytes R.device reader.old body.now }
     ensures only { IfErr result (λ e. OwnFault e (IsBufferFault e)) }
-    ensures tells { IfErr result (λ e. OwnFault e (TellsEntries R.known (entries R.memory body.now) e)) }
-    ensures step { Step R.still R.memory R.failures R.given body.now (listed (entries R.memory body.now) index) reader.old result reader.new }
+    ensures tells { IfErr result
+        (λ e. OwnFault e (TellsEntries R.device.is_memory (entries R.device body.now) e)) }
+    ensures step { Step R.device
+        body.now (listed (entries R.device body.now) index) reader.old result reader.new }
     ensures count { IfOk result (λ bits. length bits ≡ count) }
-    ensures held { IfOk result (λ bits. bytes_of_bits (length bits) ≤ listed (entries R.memory body.now) index) }
-    ensures memory { IsTrue R.known → let s = entries R.memory body.now in
+    ensures held { IfOk result
+        (λ bits. bytes_of_bits (length bits) ≤ listed (entries R.device body.now) index) }
+    ensures memory { IsTrue R.device.is_memory → let s = entries R.device body.now in
         Answers result (Need s index (bytes_for count)) (λ bits. bits ≡ bits_of s index count) }
 {
     check_bits(body, index, count)?;
@@ -546,17 +594,22 @@ pub fn read_head<R: Reads + Seeks>(
     limit: Option<usize>,
 ) -> Result<Head, Fault>
     requires room { HasRoom body.now place 1 1 }
-    requires stands { KeepsBytes R.still R.memory reader.old body.now }
+    requires stands { KeepsBytes R.device reader.old body.now }
     ensures only { IfErr result (λ e. OwnFault e (IsBufferFault e)) }
-    ensures tells { IfErr result (λ e. OwnFault e (TellsEntries R.known (entries R.memory body.now) e)) }
-    ensures step { Step R.still R.memory R.failures R.given body.now (listed (entries R.memory body.now) place.buffer) reader.old result reader.new }
-    ensures untouched { size (node (entries R.memory body.now) place.node).null_count ≡ 0 → reader.new ≡ reader.old }
+    ensures tells { IfErr result
+        (λ e. OwnFault e (TellsEntries R.device.is_memory (entries R.device body.now) e)) }
+    ensures step { Step R.device
+        body.now (listed (entries R.device body.now) place.buffer) reader.old result reader.new }
+    ensures untouched { size (node (entries R.device body.now) place.node).null_count ≡ 0
+        → reader.new ≡ reader.old }
     ensures small { IfOk result (λ h. h.rows < 2 ^ 63) }
     ensures fits { IfOk result (λ h. ValidityFits h.validity h.rows) }
-    ensures held { IfOk result (λ h. validity_held h.validity ≤ listed (entries R.memory body.now) place.buffer) }
-    ensures memory { IsTrue R.known → let s = entries R.memory body.now in
+    ensures held { IfOk result (λ h. validity_held h.validity
+        ≤ listed (entries R.device body.now) place.buffer) }
+    ensures memory { IsTrue R.device.is_memory → let s = entries R.device body.now in
         Answers result (Begins s place.node place.buffer (rows s place.node limit))
-        (λ h. (h.rows ≡ rows s place.node limit) × (h.validity ≡ validity_of s place.node place.buffer (rows s place.node limit))) }
+        (λ h. (h.rows ≡ rows s place.node limit) ×
+        (h.validity ≡ validity_of s place.node place.buffer (rows s place.node limit))) }
 {
     let node = read_node(body, place.node, limit)?;
     if !node.has_nulls {
@@ -622,7 +675,7 @@ impl StoredOffset for i64 {
 #[tactic(auto, unfolding(crate::specs::Bodies::entries))]
 fn is_omitted<R: Failures>(body: &Body<R>, index: usize, count: usize) -> bool
     requires inside { index < length body.now.buffers }
-    ensures { result ≡ is_omitted (entries R.memory body.now) index count }
+    ensures { result ≡ is_omitted (entries R.device body.now) index count }
 {
     count == 0 && body.buffers.get(index).length <= 0
 }
@@ -646,9 +699,10 @@ fn check_offset<R: Failures>(body: &Body<R>, index: usize) -> Result<(), Fault>
     requires inside { index < length body.now.buffers }
     ensures own { OnIo result ⊥ }
     ensures only { IfErr result (λ e. OwnFault e (IsColumnFault e)) }
-    ensures tells { IfErr result (λ e. OwnFault e (TellsEntries R.known (entries R.memory body.now) e)) }
+    ensures tells { IfErr result
+        (λ e. OwnFault e (TellsEntries R.device.is_memory (entries R.device body.now) e)) }
     ensures negative { IfErr result (λ e. e ≡ OutOfSpec NegativeFooterLength) }
-    ensures exact { Answers result (Need (entries R.memory body.now) index 0) (λ _. Unit {0}) }
+    ensures exact { Answers result (Need (entries R.device body.now) index 0) (λ _. Unit {0}) }
 {
     natural(body.buffers.get(index).offset)?;
     Ok(())
@@ -675,14 +729,18 @@ pub fn read_offsets<O: StoredOffset, R: Reads + Seeks>(
 ) -> Result<OffsetsBuffer<O>, Fault>
     requires inside { index < length body.now.buffers }
     requires small { count < 2 ^ 63 }
-    requires stands { KeepsBytes R.still R.memory reader.old body.now }
+    requires stands { KeepsBytes R.device reader.old body.now }
     ensures only { IfErr result (λ e. OwnFault e (IsColumnFault e)) }
-    ensures tells { IfErr result (λ e. OwnFault e (TellsEntries R.known (entries R.memory body.now) e)) }
-    ensures step { Step R.still R.memory R.failures R.given body.now (listed (entries R.memory body.now) index) reader.old result reader.new }
+    ensures tells { IfErr result
+        (λ e. OwnFault e (TellsEntries R.device.is_memory (entries R.device body.now) e)) }
+    ensures step { Step R.device
+        body.now (listed (entries R.device body.now) index) reader.old result reader.new }
     ensures count { IfOk result (λ o. length o ≡ count + 1) }
-    ensures held { IfOk result (λ o. HoldsOffsets (entries R.memory body.now) O.form index O.primitive o) }
-    ensures memory { IsTrue R.known → let s = entries R.memory body.now in
-        Answers result (Offsets s index (offset_width O.form) count) (λ o. o ≡ offsets_of s index (offset_width O.form) count) }
+    ensures held { IfOk result
+        (λ o. HoldsOffsets (entries R.device body.now) O.form index O.primitive o) }
+    ensures memory { IsTrue R.device.is_memory → let s = entries R.device body.now in
+        Answers result (Offsets s index (offset_width O.form) count)
+        (λ o. o ≡ offsets_of s index (offset_width O.form) count) }
 {
     if is_omitted(body, index, count) {
         check_offset(body, index)?;

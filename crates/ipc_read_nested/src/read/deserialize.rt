@@ -57,17 +57,23 @@ fn read_plain<R: Reads + Seeks>(
     requires plain { IsPlain (type_view data_type.now) }
     requires stored { IsStored (type_view own.now) (type_view data_type.now) }
     requires room { let t = kind_of (type_view data_type.now) id (all_ids_view ids.now) in HasRoom body.now place (nodes t) (buffers body.now.extra t) }
-    requires stands { KeepsBytes R.still R.memory reader.old body.now }
+    requires stands { KeepsBytes R.device reader.old body.now }
     ensures only { let t = kind_of (type_view data_type.now) id (all_ids_view ids.now) in IfErr result (λ e. OwnFault e (IsFaultOf t e)) }
-    ensures tells { IfErr result (λ e. OwnFault e (TellsEntries R.known (entries R.memory body.now) e)) }
+    ensures tells { IfErr result
+        (λ e. OwnFault e (TellsEntries R.device.is_memory (entries R.device body.now) e)) }
     ensures step { let t = kind_of (type_view data_type.now) id (all_ids_view ids.now) in
-        Step R.still R.memory R.failures R.given body.now (listed_in (entries R.memory body.now) body.now.extra t place.buffer) reader.old result reader.new }
+        Step R.device body.now
+        (listed_in (entries R.device body.now) body.now.extra t place.buffer) reader.old
+        result reader.new }
     ensures next { IfOk result (λ r. IsBehind body.now.extra (kind_of (type_view data_type.now) id (all_ids_view ids.now)) place r.1) }
     ensures held { let t = kind_of (type_view data_type.now) id (all_ids_view ids.now) in
-        IfOk result (λ r. HoldsListed (entries R.memory body.now) body.now.extra t place.buffer (layout_of r.0)) }
-    ensures memory { IsTrue R.known → let s = entries R.memory body.now in let t = kind_of (type_view data_type.now) id (all_ids_view ids.now) in
+        IfOk result (λ r. HoldsListed (entries R.device body.now) body.now.extra t place.buffer
+        (layout_of r.0)) }
+    ensures memory { IsTrue R.device.is_memory → let s = entries R.device body.now in
+        let t = kind_of (type_view data_type.now) id (all_ids_view ids.now) in
         Answers result (IsWell s t place.node place.buffer limit)
-        (λ r. layout_of r.0 ≡ array_at s (known body.now) t (type_view own.now) place.node place.buffer limit) }
+        (λ r. layout_of r.0 ≡ array_at s (known body.now) t (type_view own.now) place.node
+        place.buffer limit) }
 {
     let physical_type = own.to_physical_type();
     let array = read_flat(alloc, physical_type, own, reader, body, place, limit)?;
@@ -91,17 +97,23 @@ fn read_as<R: Reads + Seeks>(
 ) -> Result<(AnyArray, Place), Fault>
     requires stored { IsStored (type_view own.now) (type_view data_type.now) }
     requires room { let t = kind_of (type_view data_type.now) id (all_ids_view ids.now) in HasRoom body.now place (nodes t) (buffers body.now.extra t) }
-    requires stands { KeepsBytes R.still R.memory reader.old body.now }
+    requires stands { KeepsBytes R.device reader.old body.now }
     ensures only { let t = kind_of (type_view data_type.now) id (all_ids_view ids.now) in IfErr result (λ e. OwnFault e (IsFaultOf t e)) }
-    ensures tells { IfErr result (λ e. OwnFault e (TellsEntries R.known (entries R.memory body.now) e)) }
+    ensures tells { IfErr result
+        (λ e. OwnFault e (TellsEntries R.device.is_memory (entries R.device body.now) e)) }
     ensures step { let t = kind_of (type_view data_type.now) id (all_ids_view ids.now) in
-        Step R.still R.memory R.failures R.given body.now (listed_in (entries R.memory body.now) body.now.extra t place.buffer) reader.old result reader.new }
+        Step R.device body.now
+        (listed_in (entries R.device body.now) body.now.extra t place.buffer) reader.old
+        result reader.new }
     ensures next { IfOk result (λ r. IsBehind body.now.extra (kind_of (type_view data_type.now) id (all_ids_view ids.now)) place r.1) }
     ensures held { let t = kind_of (type_view data_type.now) id (all_ids_view ids.now) in
-        IfOk result (λ r. HoldsListed (entries R.memory body.now) body.now.extra t place.buffer (layout_of r.0)) }
-    ensures memory { IsTrue R.known → let s = entries R.memory body.now in let t = kind_of (type_view data_type.now) id (all_ids_view ids.now) in
+        IfOk result (λ r. HoldsListed (entries R.device body.now) body.now.extra t place.buffer
+        (layout_of r.0)) }
+    ensures memory { IsTrue R.device.is_memory → let s = entries R.device body.now in
+        let t = kind_of (type_view data_type.now) id (all_ids_view ids.now) in
         Answers result (IsWell s t place.node place.buffer limit)
-        (λ r. layout_of r.0 ≡ array_at s (known body.now) t (type_view own.now) place.node place.buffer limit) }
+        (λ r. layout_of r.0 ≡ array_at s (known body.now) t (type_view own.now) place.node
+        place.buffer limit) }
 {
     match data_type {
         DataType::Extension(_, inner, _) => read_as(
@@ -151,18 +163,26 @@ fn read_list<R: Reads + Seeks>(
     requires fields { child_fields (type_view own.now) ≡ more_fields (field_view field.now) no_fields }
     requires room { let t = list_kind (form_of is_large) (field_kind (field_view field.now) (first_ids (all_ids_view ids.now))) in
         HasRoom body.now place (nodes t) (buffers body.now.extra t) }
-    requires stands { KeepsBytes R.still R.memory reader.old body.now }
+    requires stands { KeepsBytes R.device reader.old body.now }
     ensures only { IfErr result (λ e. OwnFault e (IsColumnFault e)) }
-    ensures tells { IfErr result (λ e. OwnFault e (TellsEntries R.known (entries R.memory body.now) e)) }
-    ensures step { let t = list_kind (form_of is_large) (field_kind (field_view field.now) (first_ids (all_ids_view ids.now))) in
-        Step R.still R.memory R.failures R.given body.now (listed_in (entries R.memory body.now) body.now.extra t place.buffer) reader.old result reader.new }
+    ensures tells { IfErr result
+        (λ e. OwnFault e (TellsEntries R.device.is_memory (entries R.device body.now) e)) }
+    ensures step { let t = list_kind (form_of is_large)
+        (field_kind (field_view field.now) (first_ids (all_ids_view ids.now))) in
+        Step R.device body.now
+        (listed_in (entries R.device body.now) body.now.extra t place.buffer) reader.old
+        result reader.new }
     ensures next { IfOk result (λ r. IsBehind body.now.extra (list_kind (form_of is_large) (field_kind (field_view field.now) (first_ids (all_ids_view ids.now)))) place r.1) }
-    ensures held { let t = list_kind (form_of is_large) (field_kind (field_view field.now) (first_ids (all_ids_view ids.now))) in
-        IfOk result (λ r. HoldsListed (entries R.memory body.now) body.now.extra t place.buffer (layout_of r.0)) }
-    ensures memory { IsTrue R.known → let s = entries R.memory body.now in
-        let t = list_kind (form_of is_large) (field_kind (field_view field.now) (first_ids (all_ids_view ids.now))) in
+    ensures held { let t = list_kind (form_of is_large)
+        (field_kind (field_view field.now) (first_ids (all_ids_view ids.now))) in
+        IfOk result (λ r. HoldsListed (entries R.device body.now) body.now.extra t place.buffer
+        (layout_of r.0)) }
+    ensures memory { IsTrue R.device.is_memory → let s = entries R.device body.now in
+        let t = list_kind (form_of is_large)
+        (field_kind (field_view field.now) (first_ids (all_ids_view ids.now))) in
         Answers result (IsWell s t place.node place.buffer limit)
-        (λ r. layout_of r.0 ≡ array_at s (known body.now) t (type_view own.now) place.node place.buffer limit) }
+        (λ r. layout_of r.0 ≡ array_at s (known body.now) t (type_view own.now) place.node
+        place.buffer limit) }
 {
     let head = read_list_head(alloc, reader, body, place, limit, is_large)?;
     let (child_id, child_ids) = child_of(field, ids);
@@ -203,17 +223,26 @@ fn read_fixed_size_list<R: Reads + Seeks>(
     requires named { list_size (type_view own.now) ≡ size }
     requires fields { child_fields (type_view own.now) ≡ more_fields (field_view field.now) no_fields }
     requires room { let t = fixed_list_kind size (field_kind (field_view field.now) (first_ids (all_ids_view ids.now))) in HasRoom body.now start (nodes t) (buffers body.now.extra t) }
-    requires stands { KeepsBytes R.still R.memory reader.old body.now }
+    requires stands { KeepsBytes R.device reader.old body.now }
     ensures only { IfErr result (λ e. OwnFault e (IsColumnFault e)) }
-    ensures tells { IfErr result (λ e. OwnFault e (TellsEntries R.known (entries R.memory body.now) e)) }
-    ensures step { let t = fixed_list_kind size (field_kind (field_view field.now) (first_ids (all_ids_view ids.now))) in
-        Step R.still R.memory R.failures R.given body.now (listed_in (entries R.memory body.now) body.now.extra t start.buffer) reader.old result reader.new }
+    ensures tells { IfErr result
+        (λ e. OwnFault e (TellsEntries R.device.is_memory (entries R.device body.now) e)) }
+    ensures step { let t = fixed_list_kind size
+        (field_kind (field_view field.now) (first_ids (all_ids_view ids.now))) in
+        Step R.device body.now
+        (listed_in (entries R.device body.now) body.now.extra t start.buffer) reader.old
+        result reader.new }
     ensures next { IfOk result (λ r. IsBehind body.now.extra (fixed_list_kind size (field_kind (field_view field.now) (first_ids (all_ids_view ids.now)))) start r.1) }
-    ensures held { let t = fixed_list_kind size (field_kind (field_view field.now) (first_ids (all_ids_view ids.now))) in
-        IfOk result (λ r. HoldsListed (entries R.memory body.now) body.now.extra t start.buffer (layout_of r.0)) }
-    ensures memory { IsTrue R.known → let s = entries R.memory body.now in let t = fixed_list_kind size (field_kind (field_view field.now) (first_ids (all_ids_view ids.now))) in
+    ensures held { let t = fixed_list_kind size
+        (field_kind (field_view field.now) (first_ids (all_ids_view ids.now))) in
+        IfOk result (λ r. HoldsListed (entries R.device body.now) body.now.extra t start.buffer
+        (layout_of r.0)) }
+    ensures memory { IsTrue R.device.is_memory → let s = entries R.device body.now in
+        let t = fixed_list_kind size
+        (field_kind (field_view field.now) (first_ids (all_ids_view ids.now))) in
         Answers result (IsWell s t start.node start.buffer limit)
-        (λ r. layout_of r.0 ≡ array_at s (known body.now) t (type_view own.now) start.node start.buffer limit) }
+        (λ r. layout_of r.0 ≡ array_at s (known body.now) t (type_view own.now) start.node
+        start.buffer limit) }
 {
     if size == 0 {
         return Err(Fault::OutOfSpec(OutOfSpecKind::InvalidDataType));
@@ -256,17 +285,25 @@ fn read_map<R: Reads + Seeks>(
     requires lies { physical (type_view own.now) ≡ Map }
     requires fields { child_fields (type_view own.now) ≡ more_fields (field_view field.now) no_fields }
     requires room { let t = map_kind (field_kind (field_view field.now) (first_ids (all_ids_view ids.now))) in HasRoom body.now start (nodes t) (buffers body.now.extra t) }
-    requires stands { KeepsBytes R.still R.memory reader.old body.now }
+    requires stands { KeepsBytes R.device reader.old body.now }
     ensures only { IfErr result (λ e. OwnFault e (IsColumnFault e)) }
-    ensures tells { IfErr result (λ e. OwnFault e (TellsEntries R.known (entries R.memory body.now) e)) }
-    ensures step { let t = map_kind (field_kind (field_view field.now) (first_ids (all_ids_view ids.now))) in
-        Step R.still R.memory R.failures R.given body.now (listed_in (entries R.memory body.now) body.now.extra t start.buffer) reader.old result reader.new }
+    ensures tells { IfErr result
+        (λ e. OwnFault e (TellsEntries R.device.is_memory (entries R.device body.now) e)) }
+    ensures step { let t = map_kind
+        (field_kind (field_view field.now) (first_ids (all_ids_view ids.now))) in
+        Step R.device body.now
+        (listed_in (entries R.device body.now) body.now.extra t start.buffer) reader.old
+        result reader.new }
     ensures next { IfOk result (λ r. IsBehind body.now.extra (map_kind (field_kind (field_view field.now) (first_ids (all_ids_view ids.now)))) start r.1) }
-    ensures held { let t = map_kind (field_kind (field_view field.now) (first_ids (all_ids_view ids.now))) in
-        IfOk result (λ r. HoldsListed (entries R.memory body.now) body.now.extra t start.buffer (layout_of r.0)) }
-    ensures memory { IsTrue R.known → let s = entries R.memory body.now in let t = map_kind (field_kind (field_view field.now) (first_ids (all_ids_view ids.now))) in
+    ensures held { let t = map_kind
+        (field_kind (field_view field.now) (first_ids (all_ids_view ids.now))) in
+        IfOk result (λ r. HoldsListed (entries R.device body.now) body.now.extra t start.buffer
+        (layout_of r.0)) }
+    ensures memory { IsTrue R.device.is_memory → let s = entries R.device body.now in
+        let t = map_kind (field_kind (field_view field.now) (first_ids (all_ids_view ids.now))) in
         Answers result (IsWell s t start.node start.buffer limit)
-        (λ r. layout_of r.0 ≡ array_at s (known body.now) t (type_view own.now) start.node start.buffer limit) }
+        (λ r. layout_of r.0 ≡ array_at s (known body.now) t (type_view own.now) start.node
+        start.buffer limit) }
 {
     let head = read_map_head(alloc, reader, body, start, limit)?;
     let (child_id, child_ids) = child_of(field, ids);
@@ -306,17 +343,23 @@ fn read_struct<R: Reads + Seeks>(
     requires lies { physical (type_view own.now) ≡ Struct }
     requires fields { child_fields (type_view own.now) ≡ fields_view fields.now }
     requires room { let t = struct_kind (kinds_of (fields_view fields.now) (all_ids_view ids.now)) in HasRoom body.now place (nodes t) (buffers body.now.extra t) }
-    requires stands { KeepsBytes R.still R.memory reader.old body.now }
+    requires stands { KeepsBytes R.device reader.old body.now }
     ensures only { IfErr result (λ e. OwnFault e (IsColumnFault e)) }
-    ensures tells { IfErr result (λ e. OwnFault e (TellsEntries R.known (entries R.memory body.now) e)) }
+    ensures tells { IfErr result
+        (λ e. OwnFault e (TellsEntries R.device.is_memory (entries R.device body.now) e)) }
     ensures step { let t = struct_kind (kinds_of (fields_view fields.now) (all_ids_view ids.now)) in
-        Step R.still R.memory R.failures R.given body.now (listed_in (entries R.memory body.now) body.now.extra t place.buffer) reader.old result reader.new }
+        Step R.device body.now
+        (listed_in (entries R.device body.now) body.now.extra t place.buffer) reader.old
+        result reader.new }
     ensures next { IfOk result (λ r. IsBehind body.now.extra (struct_kind (kinds_of (fields_view fields.now) (all_ids_view ids.now))) place r.1) }
     ensures held { let t = struct_kind (kinds_of (fields_view fields.now) (all_ids_view ids.now)) in
-        IfOk result (λ r. HoldsListed (entries R.memory body.now) body.now.extra t place.buffer (layout_of r.0)) }
-    ensures memory { IsTrue R.known → let s = entries R.memory body.now in let t = struct_kind (kinds_of (fields_view fields.now) (all_ids_view ids.now)) in
+        IfOk result (λ r. HoldsListed (entries R.device body.now) body.now.extra t place.buffer
+        (layout_of r.0)) }
+    ensures memory { IsTrue R.device.is_memory → let s = entries R.device body.now in
+        let t = struct_kind (kinds_of (fields_view fields.now) (all_ids_view ids.now)) in
         Answers result (IsWell s t place.node place.buffer limit)
-        (λ r. layout_of r.0 ≡ array_at s (known body.now) t (type_view own.now) place.node place.buffer limit) }
+        (λ r. layout_of r.0 ≡ array_at s (known body.now) t (type_view own.now) place.node
+        place.buffer limit) }
 {
     let head = read_head(alloc, reader, body, place, limit)?;
     let below = Place {
@@ -342,17 +385,23 @@ fn read_fields<R: Reads + Seeks>(
     rows: usize,
 ) -> Result<(Vec<AnyArray>, Place), Fault>
     requires room { let ts = kinds_of (fields_view fields.now) (all_ids_view ids.now) in HasRoom body.now start (all_nodes ts) (all_buffers body.now.extra ts) }
-    requires stands { KeepsBytes R.still R.memory reader.old body.now }
+    requires stands { KeepsBytes R.device reader.old body.now }
     ensures only { IfErr result (λ e. OwnFault e (IsColumnFault e)) }
-    ensures tells { IfErr result (λ e. OwnFault e (TellsEntries R.known (entries R.memory body.now) e)) }
+    ensures tells { IfErr result
+        (λ e. OwnFault e (TellsEntries R.device.is_memory (entries R.device body.now) e)) }
     ensures step { let ts = kinds_of (fields_view fields.now) (all_ids_view ids.now) in
-        Step R.still R.memory R.failures R.given body.now (all_listed (entries R.memory body.now) body.now.extra ts start.buffer) reader.old result reader.new }
+        Step R.device body.now
+        (all_listed (entries R.device body.now) body.now.extra ts start.buffer) reader.old
+        result reader.new }
     ensures next { IfOk result (λ r. AllFollow body.now.extra (kinds_of (fields_view fields.now) (all_ids_view ids.now)) start r.1) }
     ensures held { let ts = kinds_of (fields_view fields.now) (all_ids_view ids.now) in
-        IfOk result (λ r. HoldAllListed (entries R.memory body.now) body.now.extra ts start.buffer (layouts (map layout_of r.0.items))) }
-    ensures memory { IsTrue R.known → let s = entries R.memory body.now in let ts = kinds_of (fields_view fields.now) (all_ids_view ids.now) in
+        IfOk result (λ r. HoldAllListed (entries R.device body.now) body.now.extra ts start.buffer
+        (layouts (map layout_of r.0.items))) }
+    ensures memory { IsTrue R.device.is_memory → let s = entries R.device body.now in
+        let ts = kinds_of (fields_view fields.now) (all_ids_view ids.now) in
         Answers result (AllHaveRows s ts start.node start.buffer limit rows)
-        (λ r. layouts (map layout_of r.0.items) ≡ arrays_at s (known body.now) ts (fields_view fields.now) start.node start.buffer limit) }
+        (λ r. layouts (map layout_of r.0.items) ≡ arrays_at s (known body.now) ts
+        (fields_view fields.now) start.node start.buffer limit) }
 {
     let mut columns = Vec::new(alloc);
     let mut place = start;
@@ -400,18 +449,26 @@ fn read_union<R: Reads + Seeks>(
     requires ids_named { union_ids (type_view own.now) ≡ ids_of type_ids.now }
     requires mode_named { union_mode (type_view own.now) ≡ mode }
     requires room { let t = union_kind mode (ids_of type_ids.now) (kinds_of (fields_view fields.now) (all_ids_view ids.now)) in HasRoom body.now place (nodes t) (buffers body.now.extra t) }
-    requires stands { KeepsBytes R.still R.memory reader.old body.now }
+    requires stands { KeepsBytes R.device reader.old body.now }
     ensures only { IfErr result (λ e. OwnFault e (IsColumnFault e)) }
-    ensures tells { IfErr result (λ e. OwnFault e (TellsEntries R.known (entries R.memory body.now) e)) }
-    ensures step { let t = union_kind mode (ids_of type_ids.now) (kinds_of (fields_view fields.now) (all_ids_view ids.now)) in
-        Step R.still R.memory R.failures R.given body.now (listed_in (entries R.memory body.now) body.now.extra t place.buffer) reader.old result reader.new }
+    ensures tells { IfErr result
+        (λ e. OwnFault e (TellsEntries R.device.is_memory (entries R.device body.now) e)) }
+    ensures step { let t = union_kind mode (ids_of type_ids.now)
+        (kinds_of (fields_view fields.now) (all_ids_view ids.now)) in
+        Step R.device body.now
+        (listed_in (entries R.device body.now) body.now.extra t place.buffer) reader.old
+        result reader.new }
     ensures next { IfOk result (λ r. IsBehind body.now.extra (union_kind mode (ids_of type_ids.now) (kinds_of (fields_view fields.now) (all_ids_view ids.now))) place r.1) }
-    ensures held { let t = union_kind mode (ids_of type_ids.now) (kinds_of (fields_view fields.now) (all_ids_view ids.now)) in
-        IfOk result (λ r. HoldsListed (entries R.memory body.now) body.now.extra t place.buffer (layout_of r.0)) }
-    ensures memory { IsTrue R.known → let s = entries R.memory body.now in
-        let t = union_kind mode (ids_of type_ids.now) (kinds_of (fields_view fields.now) (all_ids_view ids.now)) in
+    ensures held { let t = union_kind mode (ids_of type_ids.now)
+        (kinds_of (fields_view fields.now) (all_ids_view ids.now)) in
+        IfOk result (λ r. HoldsListed (entries R.device body.now) body.now.extra t place.buffer
+        (layout_of r.0)) }
+    ensures memory { IsTrue R.device.is_memory → let s = entries R.device body.now in
+        let t = union_kind mode (ids_of type_ids.now)
+        (kinds_of (fields_view fields.now) (all_ids_view ids.now)) in
         Answers result (IsWell s t place.node place.buffer limit)
-        (λ r. layout_of r.0 ≡ array_at s (known body.now) t (type_view own.now) place.node place.buffer limit) }
+        (λ r. layout_of r.0 ≡ array_at s (known body.now) t (type_view own.now) place.node
+        place.buffer limit) }
 {
     let types = read_types(alloc, reader, body, place, limit)?;
     let rows = types.len();
@@ -453,17 +510,23 @@ fn read_whole_fields<R: Reads + Seeks>(
     start: Place,
 ) -> Result<(Vec<AnyArray>, Place), Fault>
     requires room { let ts = kinds_of (fields_view fields.now) (all_ids_view ids.now) in HasRoom body.now start (all_nodes ts) (all_buffers body.now.extra ts) }
-    requires stands { KeepsBytes R.still R.memory reader.old body.now }
+    requires stands { KeepsBytes R.device reader.old body.now }
     ensures only { IfErr result (λ e. OwnFault e (IsColumnFault e)) }
-    ensures tells { IfErr result (λ e. OwnFault e (TellsEntries R.known (entries R.memory body.now) e)) }
+    ensures tells { IfErr result
+        (λ e. OwnFault e (TellsEntries R.device.is_memory (entries R.device body.now) e)) }
     ensures step { let ts = kinds_of (fields_view fields.now) (all_ids_view ids.now) in
-        Step R.still R.memory R.failures R.given body.now (all_listed (entries R.memory body.now) body.now.extra ts start.buffer) reader.old result reader.new }
+        Step R.device body.now
+        (all_listed (entries R.device body.now) body.now.extra ts start.buffer) reader.old
+        result reader.new }
     ensures next { IfOk result (λ r. AllFollow body.now.extra (kinds_of (fields_view fields.now) (all_ids_view ids.now)) start r.1) }
     ensures held { let ts = kinds_of (fields_view fields.now) (all_ids_view ids.now) in
-        IfOk result (λ r. HoldAllListed (entries R.memory body.now) body.now.extra ts start.buffer (layouts (map layout_of r.0.items))) }
-    ensures memory { IsTrue R.known → let s = entries R.memory body.now in let ts = kinds_of (fields_view fields.now) (all_ids_view ids.now) in
+        IfOk result (λ r. HoldAllListed (entries R.device body.now) body.now.extra ts start.buffer
+        (layouts (map layout_of r.0.items))) }
+    ensures memory { IsTrue R.device.is_memory → let s = entries R.device body.now in
+        let ts = kinds_of (fields_view fields.now) (all_ids_view ids.now) in
         Answers result (AllWell s ts start.node start.buffer)
-        (λ r. layouts (map layout_of r.0.items) ≡ arrays_at s (known body.now) ts (fields_view fields.now) start.node start.buffer None) }
+        (λ r. layouts (map layout_of r.0.items) ≡ arrays_at s (known body.now) ts
+        (fields_view fields.now) start.node start.buffer None) }
 {
     let mut columns = Vec::new(alloc);
     let mut place = start;
@@ -521,17 +584,23 @@ pub fn read<R: Reads + Seeks>(
     limit: Option<usize>,
 ) -> Result<(AnyArray, Place), Fault>
     requires room { let t = kind_of (type_view data_type.now) id (all_ids_view ids.now) in HasRoom body.now place (nodes t) (buffers body.now.extra t) }
-    requires stands { KeepsBytes R.still R.memory reader.old body.now }
+    requires stands { KeepsBytes R.device reader.old body.now }
     ensures only { let t = kind_of (type_view data_type.now) id (all_ids_view ids.now) in IfErr result (λ e. OwnFault e (IsFaultOf t e)) }
-    ensures tells { IfErr result (λ e. OwnFault e (TellsEntries R.known (entries R.memory body.now) e)) }
+    ensures tells { IfErr result
+        (λ e. OwnFault e (TellsEntries R.device.is_memory (entries R.device body.now) e)) }
     ensures step { let t = kind_of (type_view data_type.now) id (all_ids_view ids.now) in
-        Step R.still R.memory R.failures R.given body.now (listed_in (entries R.memory body.now) body.now.extra t place.buffer) reader.old result reader.new }
+        Step R.device body.now
+        (listed_in (entries R.device body.now) body.now.extra t place.buffer) reader.old
+        result reader.new }
     ensures next { IfOk result (λ r. IsBehind body.now.extra (kind_of (type_view data_type.now) id (all_ids_view ids.now)) place r.1) }
     ensures held { let t = kind_of (type_view data_type.now) id (all_ids_view ids.now) in
-        IfOk result (λ r. HoldsListed (entries R.memory body.now) body.now.extra t place.buffer (layout_of r.0)) }
-    ensures memory { IsTrue R.known → let s = entries R.memory body.now in let t = kind_of (type_view data_type.now) id (all_ids_view ids.now) in
+        IfOk result (λ r. HoldsListed (entries R.device body.now) body.now.extra t place.buffer
+        (layout_of r.0)) }
+    ensures memory { IsTrue R.device.is_memory → let s = entries R.device body.now in
+        let t = kind_of (type_view data_type.now) id (all_ids_view ids.now) in
         Answers result (IsWell s t place.node place.buffer limit)
-        (λ r. IsColumn s (known body.now) t (type_view data_type.now) place.node place.buffer limit (layout_of r.0)) }
+        (λ r. IsColumn s (known body.now) t (type_view data_type.now) place.node place.buffer limit
+        (layout_of r.0)) }
 {
     read_as(
         alloc, data_type, data_type, id, ids, reader, body, place, limit,

@@ -67,7 +67,8 @@ pub fn read_frame<R: Reads>(
     metadata: &mut Vec<u8>,
 ) -> Result<Frame, Fault>
     ensures only { IfErr result (λ e. OwnFault e (IsFramingFault e)) }
-    ensures gives { FrameGave R.gives (begun_bytes begun.old) reader.old result metadata.new.items (begun_bytes begun.new) reader.new }
+    ensures gives { FrameGave R.gives (begun_bytes begun.old) reader.old result metadata.new.items
+        (begun_bytes begun.new) reader.new }
 {
     let Some(first) = begun.word(reader)? else {
         return Ok(Frame::Waiting);

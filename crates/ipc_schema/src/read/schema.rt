@@ -10,6 +10,7 @@ ghost use Rattle.ipc_table_views.specs.SchemaSlots.{field_children, field_dictio
 ghost use Rattle.ipc_table_views.specs.Tables.{table_in};
 ghost use Rattle.ipc_table_views.specs.Unions.{type_parts};
 ghost use Rattle.ipc_model.specs.Schemas.{order_of, made, present, given, encoding_at, optional_encoding, encoded, id_of, field_with, field_at, fields_count, fields_from, first_field, some_fields, type_of_field};
+ghost use Rattle.ipc_schema.specs.Api.{CountsVisits};
 ghost use Rattle.ipc_schema.specs.Reading.{AnswersMeaning, CountsRefused, GivesMessage, GivesTable, GivesWithin, IsWithin, fields_vector, message_vector};
 ghost use Rattle.ipc_schema.specs.Views.{below_number, byte_order, child_number, child_seen, encoding_seen, field_seen, fields_number, fields_seen, inner_number, schema_seen, type_seen, with_one_id};
 
@@ -334,7 +335,8 @@ pub fn fb_to_schema(
 ) -> Result<(Schema, IpcSchema), Fault>
     requires { visits.now + length schema.now.message < 2 ^ 64 }
     ensures meaning { GivesTable schema_seen result schema.now }
-    ensures counted { IfOk result (λ r. visits.new ≡ visits.old + fields_count (fields_view r.0.fields.items)) }
+    ensures counted { IfOk result (λ r.
+        visits.new ≡ visits.old + fields_count (fields_view r.0.fields.items)) }
     ensures within { IsWithin visits.old visits.new (visits.old + length schema.now.message) }
     ensures refused { IfErr result (λ e.
         CountsRefused e (fields_vector schema.now) visits.old visits.new) }
@@ -396,10 +398,7 @@ pub fn deserialize_schema_counted(
     // the returned ids have the shape of the fields
     ensures fits { IfOk result (λ r. AllFit (fields_view r.0.fields.items)
         (all_ids_view r.1.fields.items)) }
-    ensures counted { IfOk result (λ r. visits.new ≡ visits.old + fields_count (fields_view r.0.fields.items)) }
-    ensures within { IsWithin visits.old visits.new (visits.old + length message.now) }
-    ensures refused { IfErr result (λ e.
-        CountsRefused e (message_vector message.now) visits.old visits.new) }
+    ensures counts { CountsVisits message.now visits.old result visits.new }
 {
     let read = read_message(alloc, message, visits)?;
     Ok(read)

@@ -6,4 +6,4 @@ use Rattle.ipc_calls.proofs.streams.run_calls.Given as goal
 -- The calls so far are made.
 abbrev pub invariant-loop-call : goal.invariant-loop-call
 invariant-loop-call g l =
-    AreMade g.W.Failures.known g.W.Writes.grows g.W.Failures.failures g.W.Writes.room g.W.Failures.memory (seen l.fn.writer) (take l.call-index l.calls) l.answers.items (seen l.writer)
+    AreMade g.W.Failures.device (seen l.fn.writer) (take l.call-index l.calls) l.answers.items (seen l.writer)

@@ -7,6 +7,5 @@ use Rattle.ipc_calls.proofs.streams.start_with.Goals as goal
 pub returns-clause-made : goal.returns-clause-made
 returns-clause-made g c =
     let fields = fields_view c.args.schema.now.fields.items in
-    let e = c.start.ensures in
-    start_as g.W.Failures.known g.W.Writes.grows g.W.Failures.failures g.W.Writes.room g.W.Failures.memory (seen c.args.writer.now) (seen c.start.new.self) fields (pairs_of c.args.schema.now.metadata.entries) (vec_ids c.args.ids) c.in_ok-handed.handed
-    c.start.result c.in_ok-handed.ensures (record { first = e.first; step = e.step; ok = e.ok; only = e.only; means = e.means })
+    start_as g.W.Failures.device (seen c.args.writer.now) (seen c.start.new.self) fields (pairs_of c.args.schema.now.metadata.entries) (vec_ids c.args.ids) c.in_ok-handed.handed
+    c.start.result c.in_ok-handed.ensures c.start.ensures

@@ -16,7 +16,7 @@ returns-clause-encodes c =
       values = search rules;
       rows = have_rows c.args.columns.now c.len-rows.ensures.equal;
       record_is =
-          seen_encoded _ Record (order_of c.args.is_little_endian) _ (map layout_of c.args.columns.now) _ (row_count len_of (map layout_of c.args.columns.now)) c.in_ok-record_batch.record_batch made.encodes made.order (search rules) (search rules)
+          seen_encoded _ Record (order_of c.args.is_little_endian) _ (map layout_of c.args.columns.now) _ (row_count len_of (map layout_of c.args.columns.now)) c.in_ok-record_batch.record_batch made.batch.content made.batch.order_is (search rules) (search rules)
           (c.len-rows.ensures.rows ∙ rows_same c.args.columns.now);
     }
 
@@ -31,14 +31,14 @@ returns-clause-sendable c =
 pub returns-clause-whole : goal.returns-clause-whole
 returns-clause-whole c = record {
   dictionaries = c.in_ok-dictionaries.ensures.whole;
-  record_batch = whole_encoded (order_of c.args.is_little_endian) c.in_ok-record_batch.record_batch c.in_ok-record_batch.ensures.end c.in_ok-record_batch.ensures.order;
+  record_batch = whole_encoded (order_of c.args.is_little_endian) c.in_ok-record_batch.record_batch c.in_ok-record_batch.ensures.batch.end c.in_ok-record_batch.ensures.batch.order_is;
 }
 
 pub returns-clause-takes : goal.returns-clause-takes
 returns-clause-takes c =
     let ls = map layout_of c.args.columns.now in
     let rows = c.len-rows.ensures.rows ∙ rows_same c.args.columns.now in
-    subst (λ (n : ℕ). IsEncodable Record n (levels_of ls)) rows (rw c.arrays.ensures.columns at c.in_ok-record_batch.ensures.takes)
+    subst (λ (n : ℕ). IsEncodable Record n (levels_of ls)) rows (rw c.arrays.ensures.columns at c.in_ok-record_batch.ensures.exact)
 
 pub returns-in_err-record_batch-clause-takes : goal.returns-in_err-record_batch-clause-takes
 returns-in_err-record_batch-clause-takes c =
@@ -46,4 +46,4 @@ returns-in_err-record_batch-clause-takes c =
     let rows = c.len-rows.ensures.rows ∙ rows_same c.args.columns.now in
     let fault = c.in_err-record_batch.field-0.0 in
     let e : c.from_residual-in_err-record_batch.result ≡ Err fault = search rules in
-    rw e (inr (subst (λ (n : ℕ). RefusesBatch Record n (levels_of ls) fault) rows (rw c.arrays.ensures.columns at c.in_err-record_batch.ensures.takes)))
+    rw e (inr (subst (λ (n : ℕ). RefusesBatch Record n (levels_of ls) fault) rows (rw c.arrays.ensures.columns at c.in_err-record_batch.ensures.exact)))

@@ -14,116 +14,134 @@ use Rattle.ipc_convert.proofs.Conversions.{stream_taken_so}
 use Rattle.ipc_convert.proofs.CopyFaults.{ended_by, memory_alone, stream_blocks_stop}
 use Rattle.ipc_convert.proofs.Failing.{file_fails, front_fails, memory_says_none, never_io, output_fails, output_opens_not, output_read_fails}
 use Rattle.ipc_convert.proofs.Refused.{front_refused}
-use Rattle.ipc_convert.specs.Refusals.{RefusesBehind}
+use Rattle.ipc_convert.specs.Copies.{TakesStream}
+use Rattle.ipc_convert.specs.Refusals.{AppendedCause}
 use Rattle.ipc_convert.proofs.Unfailed.{front_unfailed, takes_unfailed, where_ok}
 use Rattle.ipc_convert.proofs.append.append_stream.Goals as goal
 
-pub returns-clause-takes : goal.returns-clause-takes
-returns-clause-takes g c =
-    stream_taken_so g.R.Reads.gives g.F.Failures.known g.F.Writes.grows g.F.Failures.failures g.F.Writes.room g.F.Failures.memory g.met.R.Reads.gives_in_order
+pub returns : goal.returns
+returns g c =
+    let takes : TakesStream g.R.Reads.gives c.args.input c.into_inner-2.result =
+    stream_taken_so g.R.Reads.gives g.F.Failures.device g.met.R.Reads.laws.in_order
     c.args.input c.read_stream_metadata.new.reader _ c.in_ok-metadata-2.metadata c.in_ok-reader.reader c.copy_chunks-copied.new.source
     c.in_ok-writer.writer c.copy_chunks-copied.new.sink c.finish_file.new.writer c.copy_chunks-copied.result c.in_ok-finish_file.field-0
-    c.in_ok-metadata-2.ensures.gives c.in_ok-reader.ensures.ok c.in_ok-reader.ensures.asked c.copy_chunks-copied.ensures.copied c.in_ok-finish_file.ensures.ends c.into_inner-2.ensures
-
-pub returns-clause-appends : goal.returns-clause-appends
-returns-clause-appends g c = λ k front.
+    c.in_ok-metadata-2.ensures.gives c.in_ok-reader.ensures.made.unread c.in_ok-reader.ensures.made.asked c.copy_chunks-copied.ensures.copied c.in_ok-finish_file.ensures.ends c.into_inner-2.ensures in
     let made = c.in_ok-writer.ensures in
     let same = c.in_ok-check_schema.ensures.exact in
-    stream_appended g.R.Reads.gives g.F.Failures.known g.F.Writes.grows g.F.Failures.failures g.F.Writes.room g.F.Failures.memory g.met.R.Reads.gives_in_order
-    c.args.file c.read_file_metadata.new.reader _ c.args.input c.read_stream_metadata.new.reader _ (file_seen c.in_ok-metadata.metadata) c.in_ok-metadata-2.metadata c.in_ok-reader.reader c.copy_chunks-copied.new.source
-    c.in_ok-writer.writer c.copy_chunks-copied.new.sink c.finish_file.new.writer c.copy_chunks-copied.result c.in_ok-finish_file.field-0
-    k (c.in_ok-metadata.ensures.memory k front) (c.in_ok-metadata.ensures.whole (g.met.F.Seeks.known_still k)) made.ok.goes_on made.means made.again
-    c.in_ok-metadata-2.ensures.gives c.in_ok-reader.ensures.ok c.in_ok-reader.ensures.asked
-    (same.0.0 ∙ ap norm_schema (c.schema.ensures ∙ (λ i. (made.ok.goes_on.fields i, made.ok.goes_on.metadata i))), same.0.1 ∙ ap all_ids_view c.deref.ensures.value ∙ ap (λ x. x.0) c.in_ok-ids.ensures)
-    c.copy_chunks-copied.ensures.copied c.in_ok-finish_file.ensures.ends c.into_inner-2.ensures c.into_inner.ensures
+    let ends = c.in_ok-finish_file.ensures.ends in
+    let copied = where_ok _ c.copy_chunks-copied.result c.in_ok-finish_file.field-0 ends.all c.copy_chunks-copied.ensures.done in
+    record {
+      exact = λ k front.
+          stream_appended g.R.Reads.gives g.F.Failures.device g.met.R.Reads.laws.in_order
+          c.args.file c.read_file_metadata.new.reader _ c.args.input c.read_stream_metadata.new.reader _ (file_seen c.in_ok-metadata.metadata) c.in_ok-metadata-2.metadata c.in_ok-reader.reader c.copy_chunks-copied.new.source
+          c.in_ok-writer.writer c.copy_chunks-copied.new.sink c.finish_file.new.writer c.copy_chunks-copied.result c.in_ok-finish_file.field-0
+          k (c.in_ok-metadata.ensures.from_start k front) (c.in_ok-metadata.ensures.device.whole (g.met.F.Seeks.known_still k)) made.state.goes_on made.content.means made.content.again
+          c.in_ok-metadata-2.ensures.gives c.in_ok-reader.ensures.made.unread c.in_ok-reader.ensures.made.asked
+          (same.0.0 ∙ ap norm_schema (c.schema.ensures ∙ (λ i. (made.state.goes_on.fields i, made.state.goes_on.metadata i))), same.0.1 ∙ ap all_ids_view c.deref.ensures.value ∙ ap (λ x. x.0) c.in_ok-ids.ensures)
+          c.copy_chunks-copied.ensures.copied c.in_ok-finish_file.ensures.ends c.into_inner-2.ensures c.into_inner.ensures;
+      causes = λ there front. tt;
+      device = record {
+        done = (
+          ap g.F.Failures.device.failures c.into_inner.ensures ∙ ends.sends.step.done ∙ copied.1 ∙ c.in_ok-writer.ensures.state.done ∙ c.in_ok-metadata.ensures.device.told,
+          takes_unfailed g.R.Reads.gives g.R.Failures.device.failures g.met.R.Reads.laws.fails c.args.input _ takes,
+        );
+        failed = tt;
+      };
+      takes = takes;
+    }
 
-pub returns-in_err-metadata-clause-refused : goal.returns-in_err-metadata-clause-refused
-returns-in_err-metadata-clause-refused g c = λ k front.
+pub returns-in_err-metadata : goal.returns-in_err-metadata
+returns-in_err-metadata g c =
     let p = err_from_is_err_and c.from_residual.result c.from_residual.ensures.1 in
-    let reason = subst (λ n. OwnFault c.in_err-metadata.field-0.0 (FileReason n (g.F.Failures.memory c.args.file).whole c.in_err-metadata.field-0.0)) front (c.in_err-metadata.ensures.reason k) in
-    rw (p.1, p.2) (no_metadata _ _ c.in_err-metadata.field-0.0 _ (c.in_err-metadata.ensures.memory k front) reason)
+    rw (p.1, p.2) (record {
+      exact = λ k front. tt;
+      causes = λ k front.
+          let reason = subst (λ n. OwnFault c.in_err-metadata.field-0.0 (FileReason n (g.F.Failures.device.memory c.args.file).whole c.in_err-metadata.field-0.0)) front (c.in_err-metadata.ensures.causes.reason k) in
+          no_metadata _ _ c.in_err-metadata.field-0.0 _ (c.in_err-metadata.ensures.from_start k front) reason;
+      device = record { done = tt; failed = output_fails g.F.Failures.device c.args.file c.in_err-metadata.field-0.0 _ (output_read_fails g.F.Failures.device c.args.file c.read_file_metadata.new.reader c.in_err-metadata.field-0.0 c.in_err-metadata.ensures.device.failed) };
+      takes = tt;
+    })
 
-pub returns-in_err-writer-clause-refused : goal.returns-in_err-writer-clause-refused
-returns-in_err-writer-clause-refused g c = λ k front.
+pub returns-in_err-writer : goal.returns-in_err-writer
+returns-in_err-writer g c =
     let p = err_from_is_err_and c.from_residual-in_err-writer.result c.from_residual-in_err-writer.ensures.1 in
-    rw (p.1, p.2) (file_not_gone_on g.F.Failures.known g.F.Failures.memory c.args.file c.read_file_metadata.new.reader (file_seen c.in_ok-metadata.metadata) c.in_err-writer.field-0.0 _
-    (c.in_ok-metadata.ensures.memory k front) (c.in_ok-metadata.ensures.whole (g.met.F.Seeks.known_still k)) c.in_err-writer.ensures.only)
+    rw (p.1, p.2) (record {
+      exact = λ k front. tt;
+      causes = λ k front.
+          file_not_gone_on g.F.Failures.device c.args.file c.read_file_metadata.new.reader (file_seen c.in_ok-metadata.metadata) c.in_err-writer.field-0.0 _
+          (c.in_ok-metadata.ensures.from_start k front) (c.in_ok-metadata.ensures.device.whole (g.met.F.Seeks.known_still k)) c.in_err-writer.ensures.causes.only;
+      device = record {
+        done = tt;
+        failed =
+            output_fails g.F.Failures.device c.args.file c.in_err-writer.field-0.0 _
+            (output_opens_not g.F.Failures.device c.args.file c.read_file_metadata.new.reader c.in_err-writer.field-0.0 c.in_ok-metadata.ensures.device.told c.in_err-writer.ensures.device);
+      };
+      takes = tt;
+    })
 
-pub returns-in_err-metadata-2-clause-refused : goal.returns-in_err-metadata-2-clause-refused
-returns-in_err-metadata-2-clause-refused g c = λ k front.
+pub returns-in_err-metadata-2 : goal.returns-in_err-metadata-2
+returns-in_err-metadata-2 g c =
     let p = err_from_is_err_and c.from_residual-in_err-metadata-2.result c.from_residual-in_err-metadata-2.ensures.1 in
-    rw (p.1, p.2) (appended_refused g.F.Failures.known g.F.Failures.memory c.args.file c.read_file_metadata.new.reader (file_seen c.in_ok-metadata.metadata) g.R.Reads.gives g.R.Failures.known g.R.Failures.memory c.args.input c.in_err-metadata-2.field-0.0 _
-    (c.in_ok-metadata.ensures.memory k front) (c.in_ok-metadata.ensures.whole (g.met.F.Seeks.known_still k))
-    (front_refused g.R.Reads.gives g.R.Failures.known g.R.Failures.memory g.met.R.Reads.gives_ahead c.args.input _ c.in_err-metadata-2.field-0.0
-    (RefusesBehind g.F.Failures.known g.F.Failures.memory (file_seen c.in_ok-metadata.metadata) c.read_file_metadata.new.reader) c.in_err-metadata-2.ensures.gives))
+    rw (p.1, p.2) (record {
+      exact = λ k front. tt;
+      causes = λ k front.
+          appended_refused g.F.Failures.device c.args.file c.read_file_metadata.new.reader (file_seen c.in_ok-metadata.metadata) g.R.Reads.gives g.R.Failures.device c.args.input c.in_err-metadata-2.field-0.0 _
+          (c.in_ok-metadata.ensures.from_start k front) (c.in_ok-metadata.ensures.device.whole (g.met.F.Seeks.known_still k))
+          (front_refused g.R.Reads.gives g.R.Failures.device g.met.R.Reads.laws.ahead c.args.input _ c.in_err-metadata-2.field-0.0
+          (AppendedCause g.F.Failures.device (file_seen c.in_ok-metadata.metadata) c.read_file_metadata.new.reader) c.in_err-metadata-2.ensures.gives);
+      device = record { done = tt; failed = front_fails g.R.Reads.gives g.R.Failures.device.failures g.met.R.Reads.laws.fails c.args.input c.read_stream_metadata.new.reader c.in_err-metadata-2.field-0.0 _ c.in_err-metadata-2.ensures.gives };
+      takes = tt;
+    })
 
-pub returns-in_err-check_schema-clause-refused : goal.returns-in_err-check_schema-clause-refused
-returns-in_err-check_schema-clause-refused g c = λ k front.
+pub returns-in_err-check_schema : goal.returns-in_err-check_schema
+returns-in_err-check_schema g c =
     let p = err_from_is_err_and c.from_residual-in_err-check_schema.result c.from_residual-in_err-check_schema.ensures.1 in
     let made = c.in_ok-writer.ensures in
-    rw (p.1, p.2) (appended_refused g.F.Failures.known g.F.Failures.memory c.args.file c.read_file_metadata.new.reader (file_seen c.in_ok-metadata.metadata) g.R.Reads.gives g.R.Failures.known g.R.Failures.memory c.args.input c.in_err-check_schema.field-0.0 _
-    (c.in_ok-metadata.ensures.memory k front) (c.in_ok-metadata.ensures.whole (g.met.F.Seeks.known_still k))
-    (other_schema g.F.Failures.known g.F.Failures.memory (file_seen c.in_ok-metadata.metadata) c.read_file_metadata.new.reader g.R.Reads.gives g.R.Failures.known g.R.Failures.memory g.met.R.Reads.gives_ahead c.args.input _ c.in_ok-metadata-2.metadata c.in_err-check_schema.field-0.0
-    _ _ c.in_ok-metadata-2.ensures.gives (c.schema.ensures ∙ (λ i. (made.ok.goes_on.fields i, made.ok.goes_on.metadata i))) (ap all_ids_view c.deref.ensures.value ∙ ap (λ x. x.0) c.in_ok-ids.ensures)
-    c.in_err-check_schema.ensures.only c.in_err-check_schema.ensures.exact))
+    rw (p.1, p.2) (record {
+      exact = λ k front. tt;
+      causes = λ k front.
+          appended_refused g.F.Failures.device c.args.file c.read_file_metadata.new.reader (file_seen c.in_ok-metadata.metadata) g.R.Reads.gives g.R.Failures.device c.args.input c.in_err-check_schema.field-0.0 _
+          (c.in_ok-metadata.ensures.from_start k front) (c.in_ok-metadata.ensures.device.whole (g.met.F.Seeks.known_still k))
+          (other_schema g.F.Failures.device (file_seen c.in_ok-metadata.metadata) c.read_file_metadata.new.reader g.R.Reads.gives g.R.Failures.device g.met.R.Reads.laws.ahead c.args.input _ c.in_ok-metadata-2.metadata c.in_err-check_schema.field-0.0
+          _ _ c.in_ok-metadata-2.ensures.gives (c.schema.ensures ∙ (λ i. (made.state.goes_on.fields i, made.state.goes_on.metadata i))) (ap all_ids_view c.deref.ensures.value ∙ ap (λ x. x.0) c.in_ok-ids.ensures)
+          c.in_err-check_schema.ensures.only c.in_err-check_schema.ensures.exact);
+      device = record { done = tt; failed = never_io c.in_err-check_schema.field-0.0 _ c.in_err-check_schema.ensures.own };
+      takes = tt;
+    })
 
-pub returns-in_err-reader-clause-refused : goal.returns-in_err-reader-clause-refused
-returns-in_err-reader-clause-refused g c = λ k front.
+pub returns-in_err-reader : goal.returns-in_err-reader
+returns-in_err-reader g c =
     let p = err_from_is_err_and c.from_residual-in_err-reader.result c.from_residual-in_err-reader.ensures.1 in
-    rw (p.1, p.2) (memory_alone c.in_err-reader.field-0.0 _ c.in_err-reader.ensures.only.0)
+    rw (p.1, p.2) (record {
+      exact = λ k front. tt;
+      causes = λ k front. memory_alone c.in_err-reader.field-0.0 _ c.in_err-reader.ensures.only.0;
+      device = record { done = tt; failed = memory_says_none c.in_err-reader.field-0.0 _ c.in_err-reader.ensures.only.0 };
+      takes = tt;
+    })
 
-pub returns-in_err-finish_file-clause-refused : goal.returns-in_err-finish_file-clause-refused
-returns-in_err-finish_file-clause-refused g c = λ k front.
+pub returns-in_err-finish_file : goal.returns-in_err-finish_file
+returns-in_err-finish_file g c =
     let p = err_from_is_err_and c.from_residual-in_err-finish_file.result c.from_residual-in_err-finish_file.ensures.1 in
     let m = file_seen c.in_ok-metadata.metadata in
     let device = c.read_file_metadata.new.reader in
-    rw (p.1, p.2) (appended_refused g.F.Failures.known g.F.Failures.memory c.args.file device m g.R.Reads.gives g.R.Failures.known g.R.Failures.memory c.args.input c.in_err-finish_file.field-0.0 _
-    (c.in_ok-metadata.ensures.memory k front) (c.in_ok-metadata.ensures.whole (g.met.F.Seeks.known_still k))
-    (stream_blocks_stop g.F.Failures.known g.F.Failures.memory (GoesOn g.F.Failures.known g.F.Failures.memory m device)
-    c.in_ok-writer.writer c.copy_chunks-copied.new.sink c.finish_file.new.writer c.in_err-finish_file.field-0.0 c.in_ok-writer.ensures.ok.goes_on
-    g.R.Reads.gives g.R.Failures.known g.R.Failures.memory g.met.R.Reads.gives_in_order g.met.R.Reads.gives_ahead c.args.input c.read_stream_metadata.new.reader c.in_ok-metadata-2.metadata c.in_ok-reader.reader c.copy_chunks-copied.new.source
-    c.in_ok-metadata-2.ensures.gives c.in_ok-reader.ensures.ok c.in_ok-reader.ensures.asked (RefusesBehind g.F.Failures.known g.F.Failures.memory m device) (λ first no. inr no)
-    c.copy_chunks-copied.result c.copy_chunks-copied.ensures.stops c.copy_chunks-copied.ensures.copied c.in_err-finish_file.ensures.anyway))
-
-pub returns-in_err-metadata-clause-failed : goal.returns-in_err-metadata-clause-failed
-returns-in_err-metadata-clause-failed g c =
-    let p = err_from_is_err_and c.from_residual.result c.from_residual.ensures.1 in
-    rw (p.1, p.2) (output_fails g.F.Writes.grows g.F.Failures.failures g.F.Writes.room c.args.file c.in_err-metadata.field-0.0 _ (output_read_fails g.F.Writes.grows g.F.Failures.failures g.F.Writes.room c.args.file c.read_file_metadata.new.reader c.in_err-metadata.field-0.0 c.in_err-metadata.ensures.failed))
-
-pub returns-in_err-writer-clause-failed : goal.returns-in_err-writer-clause-failed
-returns-in_err-writer-clause-failed g c =
-    let p = err_from_is_err_and c.from_residual-in_err-writer.result c.from_residual-in_err-writer.ensures.1 in
-    rw (p.1, p.2) (output_fails g.F.Writes.grows g.F.Failures.failures g.F.Writes.room c.args.file c.in_err-writer.field-0.0 _
-    (output_opens_not g.F.Writes.grows g.F.Failures.failures g.F.Writes.room c.args.file c.read_file_metadata.new.reader c.in_err-writer.field-0.0 c.in_ok-metadata.ensures.told c.in_err-writer.ensures.failed))
-
-pub returns-in_err-metadata-2-clause-failed : goal.returns-in_err-metadata-2-clause-failed
-returns-in_err-metadata-2-clause-failed g c =
-    let p = err_from_is_err_and c.from_residual-in_err-metadata-2.result c.from_residual-in_err-metadata-2.ensures.1 in
-    rw (p.1, p.2) (front_fails g.R.Reads.gives g.R.Failures.failures g.met.R.Reads.gives_fails c.args.input c.read_stream_metadata.new.reader c.in_err-metadata-2.field-0.0 _ c.in_err-metadata-2.ensures.gives)
-
-pub returns-in_err-check_schema-clause-failed : goal.returns-in_err-check_schema-clause-failed
-returns-in_err-check_schema-clause-failed g c =
-    let p = err_from_is_err_and c.from_residual-in_err-check_schema.result c.from_residual-in_err-check_schema.ensures.1 in
-    rw (p.1, p.2) (never_io c.in_err-check_schema.field-0.0 _ c.in_err-check_schema.ensures.own)
-
-pub returns-in_err-reader-clause-failed : goal.returns-in_err-reader-clause-failed
-returns-in_err-reader-clause-failed g c =
-    let p = err_from_is_err_and c.from_residual-in_err-reader.result c.from_residual-in_err-reader.ensures.1 in
-    rw (p.1, p.2) (memory_says_none c.in_err-reader.field-0.0 _ c.in_err-reader.ensures.only.0)
-
-pub returns-in_err-finish_file-clause-failed : goal.returns-in_err-finish_file-clause-failed
-returns-in_err-finish_file-clause-failed g c =
-    let p = err_from_is_err_and c.from_residual-in_err-finish_file.result c.from_residual-in_err-finish_file.ensures.1 in
-    rw (p.1, p.2) (file_fails g.F.Writes.grows g.F.Failures.failures g.F.Writes.room c.args.file g.R.Failures.failures c.args.input (λ r. device_of r) (λ w. (seen w).device) c.in_ok-reader.reader c.copy_chunks-copied.new.source c.in_ok-writer.writer c.copy_chunks-copied.new.sink
-    (front_unfailed g.R.Reads.gives g.R.Failures.failures g.met.R.Reads.gives_fails c.args.input c.read_stream_metadata.new.reader c.in_ok-metadata-2.metadata c.in_ok-reader.reader c.in_ok-metadata-2.ensures.gives c.in_ok-reader.ensures.ok)
-    (c.in_ok-writer.ensures.ok.done ∙ c.in_ok-metadata.ensures.told) c.finish_file.new.writer c.copy_chunks-copied.result c.in_err-finish_file.field-0.0 _
-    (ended_by g.F.Failures.known g.F.Failures.memory c.copy_chunks-copied.result c.in_err-finish_file.field-0.0 (seen c.copy_chunks-copied.new.sink) (seen c.finish_file.new.writer) c.in_err-finish_file.ensures.anyway)
-    c.copy_chunks-copied.ensures.failed c.copy_chunks-copied.ensures.done c.in_err-finish_file.ensures.failed)
-
-pub returns-clause-done : goal.returns-clause-done
-returns-clause-done g c =
-    let ends = c.in_ok-finish_file.ensures.ends in
-    let copied = where_ok _ c.copy_chunks-copied.result c.in_ok-finish_file.field-0 ends.all c.copy_chunks-copied.ensures.done in (
-      ap g.F.Failures.failures c.into_inner.ensures ∙ ends.sends.step.done ∙ copied.1 ∙ c.in_ok-writer.ensures.ok.done ∙ c.in_ok-metadata.ensures.told,
-      takes_unfailed g.R.Reads.gives g.R.Failures.failures g.met.R.Reads.gives_fails c.args.input _ (returns-clause-takes g c),
-    )
+    rw (p.1, p.2) (record {
+      exact = λ k front. tt;
+      causes = λ k front.
+          appended_refused g.F.Failures.device c.args.file device m g.R.Reads.gives g.R.Failures.device c.args.input c.in_err-finish_file.field-0.0 _
+          (c.in_ok-metadata.ensures.from_start k front) (c.in_ok-metadata.ensures.device.whole (g.met.F.Seeks.known_still k))
+          (stream_blocks_stop g.F.Failures.device (GoesOn g.F.Failures.device m device)
+          c.in_ok-writer.writer c.copy_chunks-copied.new.sink c.finish_file.new.writer c.in_err-finish_file.field-0.0 c.in_ok-writer.ensures.state.goes_on
+          g.R.Reads.gives g.R.Failures.device g.met.R.Reads.laws.in_order g.met.R.Reads.laws.ahead c.args.input c.read_stream_metadata.new.reader c.in_ok-metadata-2.metadata c.in_ok-reader.reader c.copy_chunks-copied.new.source
+          c.in_ok-metadata-2.ensures.gives c.in_ok-reader.ensures.made.unread c.in_ok-reader.ensures.made.asked (AppendedCause g.F.Failures.device m device) (λ first no. inr no)
+          c.copy_chunks-copied.result c.copy_chunks-copied.ensures.stops c.copy_chunks-copied.ensures.copied c.in_err-finish_file.ensures.anyway);
+      device = record {
+        done = tt;
+        failed =
+            file_fails g.F.Failures.device c.args.file g.R.Failures.device.failures c.args.input (λ r. device_of r) (λ w. (seen w).device) c.in_ok-reader.reader c.copy_chunks-copied.new.source c.in_ok-writer.writer c.copy_chunks-copied.new.sink
+            (front_unfailed g.R.Reads.gives g.R.Failures.device.failures g.met.R.Reads.laws.fails c.args.input c.read_stream_metadata.new.reader c.in_ok-metadata-2.metadata c.in_ok-reader.reader c.in_ok-metadata-2.ensures.gives c.in_ok-reader.ensures.made.unread)
+            (c.in_ok-writer.ensures.state.done ∙ c.in_ok-metadata.ensures.device.told) c.finish_file.new.writer c.copy_chunks-copied.result c.in_err-finish_file.field-0.0 _
+            (ended_by g.F.Failures.device c.copy_chunks-copied.result c.in_err-finish_file.field-0.0 (seen c.copy_chunks-copied.new.sink) (seen c.finish_file.new.writer) c.in_err-finish_file.ensures.anyway)
+            c.copy_chunks-copied.ensures.failed c.copy_chunks-copied.ensures.done c.in_err-finish_file.ensures.failed;
+      };
+      takes = tt;
+    })

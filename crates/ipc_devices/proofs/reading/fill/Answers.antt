@@ -16,7 +16,7 @@ returns-in_err-n-clause-gives g c =
     let e : c.from_residual.result ≡ Err c.in_err-n.field-0.0 = search rules in
     let size : length (put_mid at (length buf - at) buf c.read.new.buf) ≡ length buf = grind (arith, common_steps, overwrites) in
     let short : length (take at buf) < length (put_mid at (length buf - at) buf c.read.new.buf) = omega (arith, size, c.loop-at-test.true, length-take-le at buf c.loop-at.invariant.inside) in
-    rw e (take at buf, short, nothing_more g.R.Reads.gives g.met.R.Reads.gives_in_order _ (take at buf) _ failed _ c.loop-at.invariant.gave c.in_err-n.ensures.gives)
+    rw e (take at buf, short, nothing_more g.R.Reads.gives g.met.R.Reads.laws.in_order _ (take at buf) _ failed _ c.loop-at.invariant.gave c.in_err-n.ensures.gives)
 
 pub loop-at-preserved : goal.loop-at-preserved
 loop-at-preserved g c =
@@ -29,11 +29,12 @@ loop-at-preserved g c =
     record {
       inside = grind (arith, common_steps, overwrites);
       gave = subst (λ (l : List ℕ). g.R.Reads.gives c.args.reader.now l going c.read.new.self) (sym front)
-          (g.met.R.Reads.gives_in_order _ (take at buf) _ (take n part) going _ c.loop-at.invariant.gave (c.in_ok-n.ensures.gives.some (omega arith)));
+          (g.met.R.Reads.laws.in_order _ (take at buf) _ (take n part) going _ c.loop-at.invariant.gave (c.in_ok-n.ensures.gives.some (omega arith)));
       monotone = omega arith;
-      done = g.met.R.Reads.gives_fails _ _ going _ (c.in_ok-n.ensures.gives.some (omega arith)) ∙ c.loop-at.invariant.done;
+      done = g.met.R.Reads.laws.fails _ _ going _ (c.in_ok-n.ensures.gives.some (omega arith)) ∙ c.loop-at.invariant.done;
       given = omega (arith, c.in_ok-n.ensures.given);
       whole = search rules;
+      names = search rules;
       same = λ k. fill_more _ _ _ buf part at n (search rules) (search rules) (c.loop-at.invariant.same k) ((c.in_ok-n.ensures.memory k).taken (omega arith));
     }
 
@@ -48,7 +49,7 @@ returns-then-n-eq0-clause-gives g c =
     record {
       full = λ f. absurd (omega (arith, f, size, c.loop-at-test.true));
       short = λ _. subst (λ (l : List ℕ). g.R.Reads.gives c.args.reader.now l ended c.read.new.self) (sym (front_kept buf part at c.loop-at.invariant.inside))
-          (nothing_more g.R.Reads.gives g.met.R.Reads.gives_in_order _ (take at buf) _ ended _ c.loop-at.invariant.gave ends);
+          (nothing_more g.R.Reads.gives g.met.R.Reads.laws.in_order _ (take at buf) _ ended _ c.loop-at.invariant.gave ends);
     }
 
 pub returns-then-n-eq0-clause-done : goal.returns-then-n-eq0-clause-done
@@ -56,4 +57,4 @@ returns-then-n-eq0-clause-done g c =
     let part = c.read.new.buf in
     let buf = c.loop-at.buf in
     let room : 0 < length part = grind (arith, common_steps, overwrites) in
-    g.met.R.Reads.gives_fails _ _ ended _ (c.in_ok-n.ensures.gives.none c.if-n-eq0.true room) ∙ c.loop-at.invariant.done
+    g.met.R.Reads.laws.fails _ _ ended _ (c.in_ok-n.ensures.gives.none c.if-n-eq0.true room) ∙ c.loop-at.invariant.done

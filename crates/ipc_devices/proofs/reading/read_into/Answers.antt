@@ -10,4 +10,4 @@ returns-in_err-add_piece-clause-gives g c =
     let made : c.make_room.new.bytes.items ≡ before = search rules in
     let more = c.in_err-add_piece.ensures.gives in
     let short : length (before ++ more.0) < c.args.count = omega (arith, more.1, length-append before more.0, c.loop-bytes-test.true) in
-    rw e (before ++ more.0, short, g.met.R.Reads.gives_in_order _ before _ more.0 (stop_of fault) _ c.loop-bytes.invariant.gave more.2)
+    rw e (before ++ more.0, short, g.met.R.Reads.laws.in_order _ before _ more.0 (stop_of fault) _ c.loop-bytes.invariant.gave more.2)

@@ -44,7 +44,8 @@ impl<R: Reads + Seeks + Drop> FileReader<R> {
         limit: Option<usize>,
     ) -> Result<FileReader<R>, Fault>
         requires { IsProjection (items_of projection) (length metadata.schema.fields.items) }
-        ensures ok { IfOk result (λ made. IsUnread reader metadata (items_of projection) limit made) }
+        ensures ok { IfOk result (λ made.
+            IsUnread reader metadata (items_of projection) limit made) }
         ensures only { IfErr result (λ e. (e ≡ Memory) × IsSome projection) }
     {
         let projection = choose(alloc, &metadata.schema, projection)?;
@@ -116,7 +117,7 @@ impl<R: Reads + Seeks + Drop> FileReader<R> {
     // Reads the dictionaries, if they weren't read yet. After an error only the device may have
     // changed.
     fn read_dictionaries(&mut self) -> Result<(), Fault>
-        ensures gave { DictionariesGave R.known R.still R.memory R.failures R.given self.old result self.new }
+        ensures gave { DictionariesGave R.device self.old result self.new }
     {
         if self.dictionaries.is_some() {
             return Ok(());
@@ -135,7 +136,7 @@ impl<R: Reads + Seeks + Drop> FileReader<R> {
     fn read_block(&mut self, block: usize) -> Result<Chunk<AnyArray>, Fault>
         requires known { IsSome (known_of self.old) }
         requires within { block < vec_len (metadata_of self.old).blocks }
-        ensures gave { BlockGave R.known R.still R.memory R.failures R.given block self.old result self.new }
+        ensures gave { BlockGave R.device block self.old result self.new }
     {
         let Some(dictionaries) = &self.dictionaries else {
             unreachable!();
@@ -159,7 +160,7 @@ impl<R: Reads + Seeks + Drop> FileReader<R> {
     fn read_next(&mut self) -> Result<Chunk<AnyArray>, Fault>
         requires known { IsSome (known_of self.old) }
         requires more { is_over self.old ≡ false }
-        ensures next { NextGave R.known R.still R.memory R.failures R.given self.old result self.new }
+        ensures next { NextGave R.device self.old result self.new }
     {
         let block = self.current_block;
         self.current_block += 1;
@@ -175,7 +176,7 @@ impl<R: Reads + Seeks + Drop> Iterator for FileReader<R> {
     // At most one item for each remaining block.
     ghost remaining = { λ a. at_most (blocks_left a) };
 
-    ghost next_gives = { λ a r b. NextStep R.known R.still R.memory R.failures R.given a r b };
+    ghost next_gives = { λ a r b. NextStep R.device a r b };
 
     fn next(&mut self) -> Option<Result<Chunk<AnyArray>, Fault>> {
         if self.is_finished() {

@@ -13,14 +13,14 @@ use ipc_devices::{Reads, Seeks};
 /// reported once, and then None comes. If the dictionaries are invalid, one error comes, then None.
 /// Without record blocks nothing comes.
 pub fn reading_of_files<R: Reads + Seeks + Drop>(reader: &FileReader<R>)
-    ensures items { ItemsLaw R.known R.still R.memory R.failures R.given reader.now }
-    ensures told_once { ToldOnceLaw R.known R.still R.memory R.failures R.given reader.now }
-    ensures over { OverLaw R.known R.still R.memory R.failures R.given reader.now }
+    ensures items { ItemsLaw R.device reader.now }
+    ensures told_once { ToldOnceLaw R.device reader.now }
+    ensures over { OverLaw R.device reader.now }
 {}
 
 /// The chunks of some valid blocks, joined, are the first rows of the requested columns.
 ///
 /// There are as many rows as the limit leaves, if `next` returned a chunk for each of these blocks.
 pub fn rows_of_files<R: Reads + Seeks + Drop>(reader: &FileReader<R>)
-    ensures { RowsLaw R.known R.still R.memory R.failures R.given reader.now }
+    ensures { RowsLaw R.device reader.now }
 {}

@@ -14,7 +14,4 @@ pub returns-clause-batches : goal.returns-clause-batches
 returns-clause-batches c = batches_law
 
 pub returns-clause-stream : goal.returns-clause-stream
-returns-clause-stream c = stream_law
-
-pub returns-clause-readable : goal.returns-clause-readable
-returns-clause-readable c = readable_stream_law
+returns-clause-stream c = record { means = stream_law; readable = readable_stream_law }

@@ -1,16 +1,16 @@
-use Rattle.std.proofs.Common.{◌≡◌, List, true, refl, ap}
+use Rattle.std.proofs.Common.{◌≡◌, List, refl, ap}
 use Rattle.std.proofs.lemmas.Result.{err_from_is_err_and}
 use Rattle.std.specs.Prelude.{Vec}
 use Rattle.std.specs.declared.alloc.Global.{Global}
 use Rattle.lower_arrays.specs.declared.array.AnyArray.{AnyArray}
 use Rattle.ipc_readers.proofs.OfMemory.{no_failure}
-use Rattle.ipc_round_trip.proofs.Streams.{slice_memory}
 use Rattle.ipc_projection.specs.ChosenColumns.{items_of}
 use Rattle.ipc_file_round_trip.proofs.Files.{file_same}
 use Rattle.ipc_file_round_trip.proofs.Readings.{chunks_read, chunks_refused, rows_read}
 use Rattle.ipc_file_round_trip.proofs.Reasons.{all_reason}
 use Rattle.ipc_file_round_trip.specs.declared.read.WholeFile.{WholeFile}
 use Rattle.ipc_file_round_trip.proofs.read.read_by.Goals as goal
+use Rattle.ipc_round_trip.proofs.Streams.{slices}
 
 pub returns : goal.returns
 returns c =
@@ -18,12 +18,12 @@ returns c =
     let whole : c.new-input.result.inner.now ≡ c.args.bytes.now = ap (λ f. f.inner.now) c.new-input.ensures in
     let asked = items_of c.args.projection in
     record {
-      described = file_same c.in_ok-copy.copy c.args.metadata copied.schema copied.ids copied.blocks copied.dictionaries copied.size copied.pairs;
+      described = file_same c.in_ok-copy.copy c.args.metadata copied.copy.schema copied.copy.ids copied.copy.blocks copied.dictionaries copied.copy.size copied.copy.pairs;
       chunks =
-          chunks_read true true slice_memory (λ f. 0) (λ f. f.given) (λ k. refl) refl c.in_ok-reader.reader c.new-input.result c.args.metadata asked c.args.limit c.args.bytes.now
+          chunks_read slices (λ k. refl) refl c.in_ok-reader.reader c.new-input.result c.args.metadata asked c.args.limit c.args.bytes.now
           c.in_ok-reader.ensures.ok whole c.in_ok-chunks.chunks.items c.in_ok-chunks.ensures.all;
       rows =
-          rows_read true true slice_memory (λ f. 0) (λ f. f.given) (λ k. refl) refl c.in_ok-reader.reader c.new-input.result c.args.metadata asked c.args.limit c.args.bytes.now
+          rows_read slices (λ k. refl) refl c.in_ok-reader.reader c.new-input.result c.args.metadata asked c.args.limit c.args.bytes.now
           c.in_ok-reader.ensures.ok whole c.in_ok-chunks.chunks.items c.in_ok-chunks.ensures.all;
       reason = tt;
       device = tt;
@@ -37,11 +37,11 @@ returns-in_err-chunks c =
     rw (p.1, p.2) (record {
       described = tt;
       chunks =
-          chunks_refused true true slice_memory (λ f. 0) (λ f. f.given) (λ k. refl) refl c.in_ok-reader.reader c.new-input.result c.args.metadata (items_of c.args.projection) c.args.limit
+          chunks_refused slices (λ k. refl) refl c.in_ok-reader.reader c.new-input.result c.args.metadata (items_of c.args.projection) c.args.limit
           c.args.bytes.now c.in_ok-reader.ensures.ok whole fault c.in_err-chunks.ensures.refused;
       rows = tt;
       reason =
-          all_reason true true slice_memory (λ f. 0) (λ f. f.given) (λ k. refl) refl c.in_ok-reader.reader c.new-input.result c.args.metadata (items_of c.args.projection) c.args.limit
+          all_reason slices (λ k. refl) refl c.in_ok-reader.reader c.new-input.result c.args.metadata (items_of c.args.projection) c.args.limit
           c.args.bytes.now c.in_ok-reader.ensures.ok whole fault c.in_err-chunks.ensures.refused;
       device = no_failure (Vec (List AnyArray) Global) WholeFile fault c.in_err-chunks.ensures.failed;
     })

@@ -10,7 +10,7 @@ returns-in_err-push_next-clause-refused g c =
     rw (p.1, p.2) (elim c.in_err-push_next.ensures.step.push [
       | inl h ↦ inl h
       | inr step ↦
-          broken_off g.R.Failures.known g.R.Failures.still g.R.Failures.memory g.R.Failures.failures g.R.Failures.given c.args.reader.now c.loop-chunks.reader c.push_next.new.reader
+          broken_off g.R.Failures.device c.args.reader.now c.loop-chunks.reader c.push_next.new.reader
           c.loop-chunks.chunks.items fault step c.loop-chunks.invariant.so_far
     ])
 
@@ -20,12 +20,12 @@ loop-chunks-preserved g c =
     record {
       monotone = search rules;
       so_far =
-          one_more g.R.Failures.known g.R.Failures.still g.R.Failures.memory g.R.Failures.failures g.R.Failures.given c.args.reader.now c.loop-chunks.reader c.push_next.new.reader
+          one_more g.R.Failures.device c.args.reader.now c.loop-chunks.reader c.push_next.new.reader
           c.loop-chunks.chunks.items c.push_next.new.chunks.items step.push.0 step.push.1 step.push.2 c.loop-chunks.invariant.so_far;
     }
 
 pub returns-clause-all : goal.returns-clause-all
 returns-clause-all g c =
     let step = rw c.if-branch.false at c.in_ok-push_next.ensures.step in
-    all_given g.R.Failures.known g.R.Failures.still g.R.Failures.memory g.R.Failures.failures g.R.Failures.given c.args.reader.now c.loop-chunks.reader c.push_next.new.reader
+    all_given g.R.Failures.device c.args.reader.now c.loop-chunks.reader c.push_next.new.reader
     c.loop-chunks.chunks.items c.push_next.new.chunks.items step.push.0 step.push.1 c.loop-chunks.invariant.so_far

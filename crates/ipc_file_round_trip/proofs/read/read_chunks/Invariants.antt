@@ -7,9 +7,9 @@ use Rattle.ipc_file_round_trip.proofs.read.read_chunks.Given as goal
 -- Whatever calls return from now on comes after the chunks that were read.
 abbrev pub invariant-loop-chunks : goal.invariant-loop-chunks
 invariant-loop-chunks g l = record {
-  monotone : g.R.Failures.failures (device_of l.fn.reader) ≤ g.R.Failures.failures (device_of l.reader);
-  so_far : (rs : List Answer) → Calls g.R.Failures.known g.R.Failures.still g.R.Failures.memory g.R.Failures.failures g.R.Failures.given l.reader rs
-      → Calls g.R.Failures.known g.R.Failures.still g.R.Failures.memory g.R.Failures.failures g.R.Failures.given l.fn.reader (answers_of l.chunks.items ++ rs);
+  monotone : g.R.Failures.device.failures (device_of l.fn.reader) ≤ g.R.Failures.device.failures (device_of l.reader);
+  so_far : (rs : List Answer) → Calls g.R.Failures.device l.reader rs
+      → Calls g.R.Failures.device l.fn.reader (answers_of l.chunks.items ++ rs);
 }
 
 abbrev pub decreases-loop-chunks : goal.decreases-loop-chunks

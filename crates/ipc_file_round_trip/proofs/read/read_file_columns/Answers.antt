@@ -18,10 +18,10 @@ returns-in_err-metadata c =
     let asked = items_of c.args.projection in
     let p = err_from_is_err_and c.from_residual.result c.from_residual.ensures.1 in
     rw (p.1, p.2) (record {
-      columns = metadata_refused asked c.args.limit c.args.bytes.now fault said.meaning;
-      rows = tt;
-      reason = metadata_reason asked c.args.limit c.args.bytes.now fault said.meaning said.reason;
+      exact = metadata_refused asked c.args.limit c.args.bytes.now fault said.meaning;
+      causes = metadata_reason asked c.args.limit c.args.bytes.now fault said.meaning said.reason;
       device = other_answer FileMetadata (Option WholeFile) fault _ said.device;
+      rows = tt;
     })
 
 pub returns-then-not-are_there : goal.returns-then-not-are_there
@@ -30,12 +30,12 @@ returns-then-not-are_there c =
     let asked = items_of c.args.projection in
     let many : c.len.result ≡ length m.schema.fields.items = search rules in
     record {
-      columns =
+      exact =
           names_others asked c.args.bytes.now m c.in_ok-metadata.ensures.meaning
           (λ is. false≢true (c.if-not-are_there.ensures.1 (subst (λ (n : ℕ). IsProjection asked n) (sym many) is)));
-      rows = tt;
-      reason = tt;
+      causes = tt;
       device = tt;
+      rows = tt;
     }
 
 pub returns : goal.returns
@@ -46,10 +46,10 @@ returns c =
     let f = c.in_ok-file.file in
     let gave = c.in_ok-file.ensures in
     record {
-      columns = columns_given asked c.args.limit c.args.bytes.now m f is c.in_ok-metadata.ensures.meaning gave.described gave.chunks;
-      rows = rows_same asked c.args.limit c.args.bytes.now (file_seen m) (file_seen f.metadata) (chunks_of f) gave.described gave.rows;
-      reason = tt;
+      exact = columns_given asked c.args.limit c.args.bytes.now m f is c.in_ok-metadata.ensures.meaning gave.described gave.chunks;
+      causes = tt;
       device = tt;
+      rows = rows_same asked c.args.limit c.args.bytes.now (file_seen m) (file_seen f.metadata) (chunks_of f) gave.described gave.rows;
     }
 
 pub returns-in_err-file : goal.returns-in_err-file
@@ -61,8 +61,8 @@ returns-in_err-file c =
     let is : IsProjection asked (length m.schema.fields.items) = search rules in
     let p = err_from_is_err_and c.from_residual-in_err-file.result c.from_residual-in_err-file.ensures.1 in
     rw (p.1, p.2) (record {
-      columns = columns_refused asked c.args.limit c.args.bytes.now m fault is there c.in_err-file.ensures.chunks;
-      rows = tt;
-      reason = chunks_reason asked c.args.limit c.args.bytes.now (file_seen m) fault there c.in_err-file.ensures.reason;
+      exact = columns_refused asked c.args.limit c.args.bytes.now m fault is there c.in_err-file.ensures.chunks;
+      causes = chunks_reason asked c.args.limit c.args.bytes.now (file_seen m) fault there c.in_err-file.ensures.reason;
       device = other_answer WholeFile (Option WholeFile) fault _ c.in_err-file.ensures.device;
+      rows = tt;
     })

@@ -13,39 +13,38 @@ use Rattle.ipc_file_round_trip.proofs.ReadBack.{written_law}
 use Rattle.ipc_file_round_trip.specs.Reading.{file_by, file_read}
 use Rattle.ipc_file_round_trip.proofs.round_trip.file_round_trip.Goals as goal
 
-pub returns-clause-back : goal.returns-clause-back
-returns-clause-back c =
+pub returns : goal.returns
+returns c =
     let fields = fields_view c.args.schema.fields.items in
     let written = c.in_ok-written.written in
     let read : file_by None None written.bytes.items ≡ Some (file_read c.in_ok-file.file) =
     subst (λ (xs : List ℕ). file_by None None xs ≡ Some (file_read c.in_ok-file.file)) c.deref.ensures.value c.in_ok-file.ensures.meaning in
-    written_law written.bytes.items (byte_order (not c.args.options.big_endian)) fields (pairs_of c.args.schema.metadata.entries) (chosen_ids c.args.ipc_fields fields) (pairs_of c.args.custom_metadata.entries)
-    (taken (answered (ended_as c.args.calls.now written.answers.items))) c.in_ok-file.file c.in_ok-written.ensures.file read
-
-pub returns-clause-means : goal.returns-clause-means
-returns-clause-means c =
-    let bytes = c.in_ok-written.written.bytes.items in
     record {
-      bytes = bytes;
-      written = c.in_ok-written.ensures.file;
-      read = subst (λ (xs : List ℕ). file_by None None xs ≡ Some (file_read c.in_ok-file.file)) c.deref.ensures.value c.in_ok-file.ensures.meaning;
+      exact =
+          written_law written.bytes.items (byte_order (not c.args.options.big_endian)) fields (pairs_of c.args.schema.metadata.entries) (chosen_ids c.args.ipc_fields fields) (pairs_of c.args.custom_metadata.entries)
+          (taken (answered (ended_as c.args.calls.now written.answers.items))) c.in_ok-file.file c.in_ok-written.ensures.content read;
+      causes = tt;
+      means = record { bytes = written.bytes.items; written = c.in_ok-written.ensures.content; read = read };
+      run = c.in_ok-written.ensures.state;
     }
 
-pub returns-clause-run : goal.returns-clause-run
-returns-clause-run c = c.in_ok-written.ensures.run
-
-pub returns-in_err-written-clause-only : goal.returns-in_err-written-clause-only
-returns-in_err-written-clause-only c =
+pub returns-in_err-written : goal.returns-in_err-written
+returns-in_err-written c =
     let p = err_from_is_err_and c.from_residual.result c.from_residual.ensures.1 in
-    rw (p.1, p.2) c.in_err-written.ensures.only
+    rw (p.1, p.2) (record { exact = tt; causes = c.in_err-written.ensures.causes; means = tt; run = tt })
 
-pub returns-in_err-file-clause-only : goal.returns-in_err-file-clause-only
-returns-in_err-file-clause-only c =
+pub returns-in_err-file : goal.returns-in_err-file
+returns-in_err-file c =
     let fields = fields_view c.args.schema.fields.items in
     let bytes = c.in_ok-written.written.bytes.items in
     let fault = c.in_err-file.field-0.0 in
     let refused : OwnFault fault (file_by None None bytes ≡ None) = subst (λ (xs : List ℕ). OwnFault fault (file_by None None xs ≡ None)) c.deref.ensures.value c.in_err-file.ensures.meaning in
     let p = err_from_is_err_and c.from_residual-in_err-file.result c.from_residual-in_err-file.ensures.1 in
-    rw (p.1, p.2)
-    (never_refused (byte_order (not c.args.options.big_endian)) fields (pairs_of c.args.schema.metadata.entries) (chosen_ids c.args.ipc_fields fields) (pairs_of c.args.custom_metadata.entries) c.args.calls.now bytes _ fault
-    c.in_ok-written.ensures.file c.in_err-file.ensures.device refused)
+    rw (p.1, p.2) (record {
+      exact = tt;
+      causes =
+          never_refused (byte_order (not c.args.options.big_endian)) fields (pairs_of c.args.schema.metadata.entries) (chosen_ids c.args.ipc_fields fields) (pairs_of c.args.custom_metadata.entries) c.args.calls.now bytes _ fault
+          c.in_ok-written.ensures.content c.in_err-file.ensures.device refused;
+      means = tt;
+      run = tt;
+    })

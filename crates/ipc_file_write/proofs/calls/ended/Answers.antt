@@ -15,21 +15,21 @@ returns-in-Finished c = record {
 pub returns-in_ok-finish-in_default : goal.returns-in_ok-finish-in_default
 returns-in_ok-finish-in_default c = record {
   ok =
-      finished_now (seen c.args.writer) (seen c.finish.new.self) c.into_inner-in_default.result c.in_ok-finish-in_default.ensures.step c.in_ok-finish-in_default.ensures.ok
-      c.in_ok-finish-in_default.ensures.means c.into_inner-in_default.ensures;
-  state = inl c.in_ok-finish-in_default.ensures.ok.was;
+      finished_now (seen c.args.writer) (seen c.finish.new.self) c.into_inner-in_default.result c.in_ok-finish-in_default.ensures.finishes.device c.in_ok-finish-in_default.ensures.finishes.state.ok
+      c.in_ok-finish-in_default.ensures.finishes.content c.into_inner-in_default.ensures;
+  state = inl c.in_ok-finish-in_default.ensures.finishes.state.ok.was;
   only = tt;
 }
 
 pub returns-in_err-finish-in_default : goal.returns-in_err-finish-in_default
 returns-in_err-finish-in_default c =
     let fault = c.in_err-finish-in_default.field-0.0 in
-    let e = c.in_err-finish-in_default.ensures in
+    let e = c.in_err-finish-in_default.ensures.finishes in
     let p = err_from_is_err_and c.from_residual.result c.from_residual.ensures.1 in
     rw (p.1, p.2) (record {
       ok = tt;
       state = tt;
       only =
-          refuses_end (seen c.args.writer) (seen c.finish.new.self) (λ is. c.in_default.not-Finished (c.state.ensures ∙ is)) fault e.first e.only e.exact.0
-          (ending_full (seen c.args.writer) (seen c.finish.new.self) fault e.step);
+          refuses_end (seen c.args.writer) (seen c.finish.new.self) (λ is. c.in_default.not-Finished (c.state.ensures ∙ is)) fault e.state.first e.causes e.exact.0
+          (ending_full (seen c.args.writer) (seen c.finish.new.self) fault e.device);
     })

@@ -13,7 +13,7 @@ loop-call-preserved g c =
     let next : take (i + 1) calls ≡ take i calls ++ call ∷ [] =
     take_more calls i call c.loop-call-test.true ∙ sym (ap (λ x. take i calls ++ x ∷ []) c.call-item.is) in
     rw (next, c.in_ok-push.ensures.items)
-    (made_more g.W.Failures.known g.W.Writes.grows g.W.Failures.failures g.W.Writes.room g.W.Failures.memory _ _ _ (take i calls) c.loop-call.answers.items call c.run_call.result c.loop-call.invariant c.run_call.ensures.made)
+    (made_more g.W.Failures.device _ _ _ (take i calls) c.loop-call.answers.items call c.run_call.result c.loop-call.invariant c.run_call.ensures.made)
 
 pub returns-in_err-push-clause-refused : goal.returns-in_err-push-clause-refused
 returns-in_err-push-clause-refused g c =
@@ -26,33 +26,20 @@ returns-in_err-push-clause-refused g c =
       count = i + 1;
       answers = c.loop-call.answers.items ++ c.run_call.result ∷ [];
       made = rw next
-          (made_more g.W.Failures.known g.W.Writes.grows g.W.Failures.failures g.W.Writes.room g.W.Failures.memory _ _ _ (take i calls) c.loop-call.answers.items call c.run_call.result c.loop-call.invariant c.run_call.ensures.made);
+          (made_more g.W.Failures.device _ _ _ (take i calls) c.loop-call.answers.items call c.run_call.result c.loop-call.invariant c.run_call.ensures.made);
     })
 
-pub returns-clause-run : goal.returns-clause-run
-returns-clause-run g c =
+pub returns-clause-ran : goal.returns-clause-ran
+returns-clause-ran g c =
+    let a = seen c.args.writer.now in
+    let b = seen c.loop-call.writer in
+    let calls = c.args.calls.now in
+    let answers = c.loop-call.answers.items in
     let whole : take c.loop-call.call-index c.args.calls.now ≡ c.args.calls.now = take_all _ _ c.loop-call-test.false in
-    moves_run g.W.Failures.known g.W.Failures.memory (seen c.args.writer.now) (seen c.loop-call.writer) c.args.calls.now c.loop-call.answers.items
-    (moves_all g.W.Failures.known g.W.Writes.grows g.W.Failures.failures g.W.Writes.room g.W.Failures.memory (seen c.args.writer.now) (seen c.loop-call.writer) c.args.calls.now c.loop-call.answers.items
-    (rw whole at c.loop-call.invariant))
-
-pub returns-clause-follows : goal.returns-clause-follows
-returns-clause-follows g c =
-    let whole : take c.loop-call.call-index c.args.calls.now ≡ c.args.calls.now = take_all _ _ c.loop-call-test.false in
-    moves_follow g.W.Failures.known g.W.Failures.memory (seen c.args.writer.now) (seen c.loop-call.writer) c.args.calls.now c.loop-call.answers.items
-    (moves_all g.W.Failures.known g.W.Writes.grows g.W.Failures.failures g.W.Writes.room g.W.Failures.memory (seen c.args.writer.now) (seen c.loop-call.writer) c.args.calls.now c.loop-call.answers.items
-    (rw whole at c.loop-call.invariant))
-
-pub returns-clause-same : goal.returns-clause-same
-returns-clause-same g c =
-    let whole : take c.loop-call.call-index c.args.calls.now ≡ c.args.calls.now = take_all _ _ c.loop-call-test.false in
-    moves_same g.W.Failures.known g.W.Failures.memory (seen c.args.writer.now) (seen c.loop-call.writer) c.args.calls.now c.loop-call.answers.items
-    (moves_all g.W.Failures.known g.W.Writes.grows g.W.Failures.failures g.W.Writes.room g.W.Failures.memory (seen c.args.writer.now) (seen c.loop-call.writer) c.args.calls.now c.loop-call.answers.items
-    (rw whole at c.loop-call.invariant))
-
-pub returns-clause-chosen : goal.returns-clause-chosen
-returns-clause-chosen g c =
-    let whole : take c.loop-call.call-index c.args.calls.now ≡ c.args.calls.now = take_all _ _ c.loop-call-test.false in
-    moves_chosen g.W.Failures.known g.W.Failures.memory (seen c.args.writer.now) (seen c.loop-call.writer) c.args.calls.now c.loop-call.answers.items
-    (moves_all g.W.Failures.known g.W.Writes.grows g.W.Failures.failures g.W.Writes.room g.W.Failures.memory (seen c.args.writer.now) (seen c.loop-call.writer) c.args.calls.now c.loop-call.answers.items
-    (rw whole at c.loop-call.invariant))
+    record {
+      made = rw whole at c.loop-call.invariant;
+      state = moves_run g.W.Failures.device a b calls answers (moves_all g.W.Failures.device a b calls answers (rw whole at c.loop-call.invariant));
+      content = moves_follow g.W.Failures.device a b calls answers (moves_all g.W.Failures.device a b calls answers (rw whole at c.loop-call.invariant));
+      same = moves_same g.W.Failures.device a b calls answers (moves_all g.W.Failures.device a b calls answers (rw whole at c.loop-call.invariant));
+      chosen = moves_chosen g.W.Failures.device a b calls answers (moves_all g.W.Failures.device a b calls answers (rw whole at c.loop-call.invariant));
+    }

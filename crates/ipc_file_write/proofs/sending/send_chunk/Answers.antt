@@ -18,7 +18,7 @@ returns-in_err-messages g c =
     let fault = c.in_err-messages.field-0.0 in
     let e : c.from_residual.result ≡ Err fault = search rules in
     rw e
-    (hands_refused g.W.Failures.known g.W.Writes.grows g.W.Failures.failures g.W.Writes.room g.W.Failures.memory (byte_order c.args.is_little_endian) columns list c.args.place c.args.writer.now c.args.writer.now c.args.state.now c.args.state.now
+    (hands_refused g.W.Failures.device (byte_order c.args.is_little_endian) columns list c.args.place c.args.writer.now c.args.writer.now c.args.state.now c.args.state.now
     fault (inl c.in_err-messages.ensures.takes) (messages_not_io list columns fault c.in_err-messages.ensures.takes))
 
 pub returns-in_err-placed : goal.returns-in_err-placed
@@ -34,7 +34,7 @@ returns-in_err-placed g c =
     let refused : RefusesBlockRoom c.args.place (map sent (dictionaries_seen messages) ++ sent (message_seen messages.record_batch) ∷ []) fault =
     subst (λ (ws : List Sent). RefusesBlockRoom c.args.place (ws ++ sent_seen messages.record_batch ∷ []) fault) (sym (seen_sent messages.dictionaries.items)) c.in_err-placed.ensures.only in
     rw e
-    (hands_refused g.W.Failures.known g.W.Writes.grows g.W.Failures.failures g.W.Writes.room g.W.Failures.memory order columns list c.args.place c.args.writer.now c.args.writer.now c.args.state.now c.args.state.now fault
+    (hands_refused g.W.Failures.device order columns list c.args.place c.args.writer.now c.args.writer.now c.args.state.now c.args.state.now fault
     (inr (record { dictionaries = dictionaries_seen messages; own = message_seen messages.record_batch; are = are; refused = refused }))
     (places_not_io c.args.place _ fault refused))
 
@@ -49,7 +49,7 @@ returns-in_err-send_messages g c =
     let are : AreMessages order columns list (dictionaries_seen messages) (message_seen messages.record_batch) =
     subst (λ (o : Endianness). AreMessages o columns list (dictionaries_seen messages) (message_seen messages.record_batch)) (same_order c.args.is_little_endian) c.in_ok-messages.ensures.encodes in
     rw e
-    (hands_failed g.W.Failures.known g.W.Writes.grows g.W.Failures.failures g.W.Writes.room g.W.Failures.memory order columns list c.args.place c.args.writer.now c.send_messages.new.writer c.args.state.now c.send_messages.new.state fault
+    (hands_failed g.W.Failures.device order columns list c.args.place c.args.writer.now c.send_messages.new.writer c.args.state.now c.send_messages.new.state fault
     (dictionaries_seen messages) (message_seen messages.record_batch) are (bytes_sent order columns list (dictionaries_seen messages) (message_seen messages.record_batch) are) c.in_err-send_messages.ensures.sends
     c.in_err-send_messages.ensures.failed)
 
@@ -63,6 +63,6 @@ returns g c =
     subst (λ (o : Endianness). AreMessages o columns list (dictionaries_seen messages) (message_seen messages.record_batch)) (same_order c.args.is_little_endian) c.in_ok-messages.ensures.encodes in
     let placed : HasBlocksFrom c.args.place (map sent (dictionaries_seen messages)) (sent (message_seen messages.record_batch)) c.in_ok-placed.placed =
     subst (λ (ws : List Sent). HasBlocksFrom c.args.place ws (sent_seen messages.record_batch) c.in_ok-placed.placed) (sym (seen_sent messages.dictionaries.items)) c.in_ok-placed.ensures.ok in
-    hands_all g.W.Failures.known g.W.Writes.grows g.W.Failures.failures g.W.Writes.room g.W.Failures.memory order columns list c.args.place c.args.writer.now c.send_messages.new.writer c.args.state.now c.send_messages.new.state c.in_ok-placed.placed
+    hands_all g.W.Failures.device order columns list c.args.place c.args.writer.now c.send_messages.new.writer c.args.state.now c.send_messages.new.state c.in_ok-placed.placed
     (dictionaries_seen messages) (message_seen messages.record_batch) are (bytes_sent order columns list (dictionaries_seen messages) (message_seen messages.record_batch) are) c.in_ok-messages.ensures.takes placed
     c.in_ok-send_messages.ensures.sends c.in_ok-send_messages.ensures.stays

@@ -1,16 +1,14 @@
 //! Reads the record batch at a block of a file.
-ghost use Rattle.std.specs.Prelude.{◌≡◌, ◌+◌, ◌≤◌, ◌<◌, length, map, vec_len, IsTrue, IfOk, IfErr, OnOk, Some, None, Err, slice_get};
-ghost use Rattle.std.specs.Option.{option_and_then, option_copied};
+ghost use Rattle.std.specs.Prelude.{◌≡◌, ◌+◌, ◌≤◌, ◌<◌, length, map, vec_len, IsTrue, IfOk, IfErr};
+ghost use Rattle.std.specs.Option.{option_copied};
 ghost use Rattle.ipc_devices.specs.Device.{Rises};
 ghost use Rattle.ipc_devices.specs.Faults.{OnIo, UnlessIo, OwnFault};
-ghost use Rattle.ipc_devices.specs.declared.fault.Fault.TheVariants.{OutOfSpec};
-ghost use Rattle.ipc_devices.specs.declared.fault.OutOfSpecKind.TheVariants.{NegativeFooterLength};
 ghost use Rattle.ipc_model.specs.Batches.{chosen, extra_of, kinds, lists_of, record_meaning};
-ghost use Rattle.ipc_model.specs.Files.{file_chunk, placed};
 ghost use Rattle.ipc_model.specs.ReadChunks.{HaveMeaning};
 ghost use Rattle.ipc_base.specs.IdTrees.{all_ids_view};
 ghost use Rattle.lower_arrays.specs.AnyLayouts.{layout_of};
-ghost use Rattle.ipc_files.specs.Batches.{BlockGiven, HoldBatch, IsRecordFault, RecordReason, block_metadata, needed_bytes, needed_record};
+ghost use Rattle.ipc_files.specs.Api.{ReadsBatch, block_request};
+ghost use Rattle.ipc_files.specs.Batches.{needed_record};
 ghost use Rattle.ipc_files.specs.Footers.{GivesPart, file_seen};
 ghost use Rattle.ipc_read_flat.specs.Bodies.{known_dictionaries};
 ghost use Rattle.ipc_read.specs.Chunks.{chunk_seen};
@@ -59,20 +57,29 @@ fn read_record<R: Reads + Seeks>(
     ensures only { let js = chosen (option_copied projection.entry) (length metadata.now.schema.fields.items) in
         IfErr result (λ e. OwnFault e (IsFaultOfBatch (kinds (file_seen metadata.now).schema) js e)) }
     ensures lists { IfErr result (TellsBatch (file_seen metadata.now).schema (extra_of version) batch.entry metadata.now.size) }
-    ensures monotone { R.failures reader.old ≤ R.failures reader.new }
-    ensures failed { OnIo result (Rises (R.failures reader.old) (R.failures reader.new)) }
-    ensures told { UnlessIo result (R.failures reader.new ≡ R.failures reader.old) }
+    ensures monotone { R.device.failures reader.old ≤ R.device.failures reader.new }
+    ensures failed { OnIo result
+        (Rises (R.device.failures reader.old) (R.device.failures reader.new)) }
+    ensures told { UnlessIo result (R.device.failures reader.new ≡ R.device.failures reader.old) }
     ensures given { let js = chosen (option_copied projection.entry) (length metadata.now.schema.fields.items) in
-        R.given reader.new ≤ R.given reader.old + chosen_listed (lists_of batch.entry) (extra_of version) (kinds (file_seen metadata.now).schema) js }
+        R.device.given reader.new
+        ≤ R.device.given reader.old
+        + chosen_listed (lists_of batch.entry) (extra_of version)
+        (kinds (file_seen metadata.now).schema) js }
     ensures held { let js = chosen (option_copied projection.entry) (length metadata.now.schema.fields.items) in
         IfOk result (λ xs. HoldChosen metadata.now.size (lists_of batch.entry) (extra_of version) (kinds (file_seen metadata.now).schema) js xs) }
-    ensures memory { IsTrue R.known → let m = file_seen metadata.now in
+    ensures memory { IsTrue R.device.is_memory → let m = file_seen metadata.now in
         GivesPart chunk_seen result (record_meaning m.schema (extra_of version) (known_dictionaries dictionaries.now)
-        (record { source = (R.memory reader.old).whole; base = body; size = m.size }) batch.entry (option_copied projection.entry) limit) }
-    ensures values { IsTrue R.known → let js = chosen (option_copied projection.entry) (length metadata.now.schema.fields.items) in
+        (record { source = (R.device.memory reader.old).whole; base = body; size = m.size })
+        batch.entry (option_copied projection.entry) limit) }
+    ensures values { IsTrue R.device.is_memory
+        → let js = chosen (option_copied projection.entry)
+        (length metadata.now.schema.fields.items) in
         IfOk result (λ xs. HaveMeaning (known_dictionaries dictionaries.now) (all_ids_view metadata.now.ipc_schema.fields.items) js (chunk_seen xs) (map layout_of xs)) }
     ensures idle { scratch.new ≡ scratch.old }
-    ensures whole { IsTrue R.still → (R.memory reader.new).whole ≡ (R.memory reader.old).whole }
+    ensures whole { IsTrue R.device.is_read_only
+        → (R.device.memory reader.new).whole ≡ (R.device.memory reader.old).whole }
+    ensures names { R.device.names reader.new ≡ R.device.names reader.old }
 {
     read_record_batch(
         alloc,
@@ -144,34 +151,12 @@ pub fn read_batch<R: Reads + Seeks>(
     data_scratch: &mut Vec<u8>,
 ) -> Result<Chunk<AnyArray>, Fault>
     requires index { index < vec_len metadata.now.blocks }
-    requires prepared { ArePrepared (option_copied projection) (length metadata.now.schema.fields.items) }
-    ensures many { IfOk result (λ chunk. length chunk ≡ length (chosen (option_copied projection.entry) (length metadata.now.schema.fields.items))) }
-    ensures only { let m = file_seen metadata.now in
-        let js = chosen (option_copied projection.entry) (length metadata.now.schema.fields.items) in
-        IfErr result (λ e. OwnFault e (IsRecordFault (kinds m.schema) js e)) }
-    ensures monotone { R.failures reader.old ≤ R.failures reader.new }
-    ensures failed { OnIo result (Rises (R.failures reader.old) (R.failures reader.new)) }
-    ensures told { UnlessIo result (R.failures reader.new ≡ R.failures reader.old) }
-    ensures given { let m = file_seen metadata.now in
-        let js = chosen (option_copied projection.entry) (length metadata.now.schema.fields.items) in
-        BlockGiven R.known (needed_bytes (kinds m.schema) js) (R.memory reader.old).whole
-        (slice_get metadata.now.blocks.items index)
-        message_scratch.new.items result (R.given reader.old) (R.given reader.new) }
-    ensures held { let m = file_seen metadata.now in
-        let js = chosen (option_copied projection.entry) (length metadata.now.schema.fields.items) in
-        IfOk result (λ xs. HoldBatch m.size (kinds m.schema) js message_scratch.new.items xs) }
-    ensures message { IsTrue R.known → OnOk result (block_metadata (R.memory reader.old).whole (slice_get metadata.now.blocks.items index) ≡ Some message_scratch.new.items) }
-    ensures numbers { option_and_then placed (slice_get metadata.now.blocks.items index) ≡ None → result ≡ Err (OutOfSpec NegativeFooterLength) }
-    ensures reason { IsTrue R.known → let m = file_seen metadata.now in
-        let js = chosen (option_copied projection.entry) (length metadata.now.schema.fields.items) in
-        IfErr result (λ e. OwnFault e (RecordReason m js (R.memory reader.old).whole (slice_get metadata.now.blocks.items index) e)) }
-    ensures memory { IsTrue R.known → GivesPart chunk_seen result
-        (file_chunk (file_seen metadata.now) (known_dictionaries dictionaries.now) (R.memory reader.old).whole
-        (option_copied projection.entry) limit index) }
-    ensures values { IsTrue R.known → let js = chosen (option_copied projection.entry) (length metadata.now.schema.fields.items) in
-        IfOk result (λ xs. HaveMeaning (known_dictionaries dictionaries.now) (all_ids_view metadata.now.ipc_schema.fields.items) js (chunk_seen xs) (map layout_of xs)) }
+    requires prepared { ArePrepared (option_copied projection)
+        (length metadata.now.schema.fields.items) }
+    ensures batch { let q = block_request metadata.now dictionaries.now
+        (option_copied projection.entry) limit index in
+        ReadsBatch R.device q reader.old message_scratch.new.items result reader.new }
     ensures idle { data_scratch.new ≡ data_scratch.old }
-    ensures whole { IsTrue R.still → (R.memory reader.new).whole ≡ (R.memory reader.old).whole }
 {
     let block = &metadata.blocks[index];
     let place = place_of(block, OutOfSpecKind::NegativeFooterLength)?;

@@ -53,14 +53,20 @@ pub(super) fn place_of(block: &Block, negative: OutOfSpecKind) -> Result<BlockPl
 // The next 4 bytes as a number.
 fn read_word<R: Reads>(reader: &mut R) -> Result<u32, Fault>
     ensures only { IfErr result (λ e. OwnFault e (e ≡ Ended)) }
-    ensures monotone { R.failures reader.old ≤ R.failures reader.new }
-    ensures failed { OnIo result (Rises (R.failures reader.old) (R.failures reader.new)) }
-    ensures told { UnlessIo result (R.failures reader.new ≡ R.failures reader.old) }
-    ensures given { R.given reader.new ≤ R.given reader.old + 4 }
-    ensures left { IsTrue R.known → OnOk result (after (R.memory reader.new) ≡ drop 4 (after (R.memory reader.old))) }
-    ensures memory { IsTrue R.known → Answers result (4 ≤ length (after (R.memory reader.old)))
-        (λ n. n ≡ word (after (R.memory reader.old))) }
-    ensures whole { IsTrue R.still → (R.memory reader.new).whole ≡ (R.memory reader.old).whole }
+    ensures monotone { R.device.failures reader.old ≤ R.device.failures reader.new }
+    ensures failed { OnIo result
+        (Rises (R.device.failures reader.old) (R.device.failures reader.new)) }
+    ensures told { UnlessIo result (R.device.failures reader.new ≡ R.device.failures reader.old) }
+    ensures given { R.device.given reader.new ≤ R.device.given reader.old + 4 }
+    ensures left { IsTrue R.device.is_memory
+        → OnOk result
+        (after (R.device.memory reader.new) ≡ drop 4 (after (R.device.memory reader.old))) }
+    ensures memory { IsTrue R.device.is_memory
+        → Answers result (4 ≤ length (after (R.device.memory reader.old)))
+        (λ n. n ≡ word (after (R.device.memory reader.old))) }
+    ensures whole { IsTrue R.device.is_read_only
+        → (R.device.memory reader.new).whole ≡ (R.device.memory reader.old).whole }
+    ensures names { R.device.names reader.new ≡ R.device.names reader.old }
 {
     let mut bytes = [0; 4];
     read_exact(reader, &mut bytes)?;
@@ -70,13 +76,19 @@ fn read_word<R: Reads>(reader: &mut R) -> Result<u32, Fault>
 // The length that a prefix states: after the continuation marker, or alone in the older form.
 fn read_prefix<R: Reads>(reader: &mut R) -> Result<u32, Fault>
     ensures only { IfErr result (λ e. OwnFault e (e ≡ Ended)) }
-    ensures monotone { R.failures reader.old ≤ R.failures reader.new }
-    ensures failed { OnIo result (Rises (R.failures reader.old) (R.failures reader.new)) }
-    ensures told { UnlessIo result (R.failures reader.new ≡ R.failures reader.old) }
-    ensures given { R.given reader.new ≤ R.given reader.old + 8 }
-    ensures number { IsTrue R.known → GivesPart (λ n. n) result (prefix_of (after (R.memory reader.old))) }
-    ensures memory { IsTrue R.known → GivesPrefix (frame (after (R.memory reader.old))) result (after (R.memory reader.new)) }
-    ensures whole { IsTrue R.still → (R.memory reader.new).whole ≡ (R.memory reader.old).whole }
+    ensures monotone { R.device.failures reader.old ≤ R.device.failures reader.new }
+    ensures failed { OnIo result
+        (Rises (R.device.failures reader.old) (R.device.failures reader.new)) }
+    ensures told { UnlessIo result (R.device.failures reader.new ≡ R.device.failures reader.old) }
+    ensures given { R.device.given reader.new ≤ R.device.given reader.old + 8 }
+    ensures number { IsTrue R.device.is_memory
+        → GivesPart (λ n. n) result (prefix_of (after (R.device.memory reader.old))) }
+    ensures memory { IsTrue R.device.is_memory
+        → GivesPrefix (frame (after (R.device.memory reader.old))) result
+        (after (R.device.memory reader.new)) }
+    ensures whole { IsTrue R.device.is_read_only
+        → (R.device.memory reader.new).whole ≡ (R.device.memory reader.old).whole }
+    ensures names { R.device.names reader.new ≡ R.device.names reader.old }
 {
     let first = read_word(reader)?;
     if first != CONTINUATION {
@@ -96,16 +108,22 @@ pub(super) fn read_metadata<R: Reads + Seeks>(
     metadata: &mut Vec<u8>,
 ) -> Result<(), Fault>
     ensures only { IfErr result (λ e. OwnFault e (IsFrameFault negative e)) }
-    ensures monotone { R.failures reader.old ≤ R.failures reader.new }
-    ensures failed { OnIo result (Rises (R.failures reader.old) (R.failures reader.new)) }
-    ensures told { UnlessIo result (R.failures reader.new ≡ R.failures reader.old) }
-    ensures given { MetadataGiven R.known (drop place (R.memory reader.old).whole) result
-        metadata.new.items
-        (R.given reader.old) (R.given reader.new) }
-    ensures reason { IsTrue R.known → IfErr result (λ e. OwnFault e (e ≡ frame_fault negative (prefix_of (drop place (R.memory reader.old).whole)))) }
-    ensures memory { IsTrue R.known → GivesPart (λ _. metadata.new.items) result
-        (stated_metadata (frame (drop place (R.memory reader.old).whole))) }
-    ensures whole { IsTrue R.still → (R.memory reader.new).whole ≡ (R.memory reader.old).whole }
+    ensures monotone { R.device.failures reader.old ≤ R.device.failures reader.new }
+    ensures failed { OnIo result
+        (Rises (R.device.failures reader.old) (R.device.failures reader.new)) }
+    ensures told { UnlessIo result (R.device.failures reader.new ≡ R.device.failures reader.old) }
+    ensures given { MetadataGiven R.device.is_memory (drop place (R.device.memory reader.old).whole)
+        result metadata.new.items
+        (R.device.given reader.old) (R.device.given reader.new) }
+    ensures reason { IsTrue R.device.is_memory
+        → IfErr result
+        (λ e. OwnFault e
+        (e ≡ frame_fault negative (prefix_of (drop place (R.device.memory reader.old).whole)))) }
+    ensures memory { IsTrue R.device.is_memory → GivesPart (λ _. metadata.new.items) result
+        (stated_metadata (frame (drop place (R.device.memory reader.old).whole))) }
+    ensures whole { IsTrue R.device.is_read_only
+        → (R.device.memory reader.new).whole ≡ (R.device.memory reader.old).whole }
+    ensures names { R.device.names reader.new ≡ R.device.names reader.old }
 {
     reader.seek_to(place)?;
     let length = read_prefix(reader)?;

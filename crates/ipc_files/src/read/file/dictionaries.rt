@@ -1,13 +1,14 @@
 //! Reads the dictionaries of a file.
-ghost use Rattle.std.specs.Prelude.{◌≡◌, ◌+◌, ◌≤◌, [], Some, None, Err, IsTrue, IfErr, IfOk, IsOk, OnOk};
+ghost use Rattle.std.specs.Prelude.{◌≡◌, ◌+◌, ◌≤◌, Some, None, Err, IsTrue, IfErr, OnOk};
 ghost use Rattle.ipc_devices.specs.Device.{Rises};
 ghost use Rattle.ipc_devices.specs.Faults.{OnIo, UnlessIo, OwnFault};
 ghost use Rattle.ipc_devices.specs.declared.fault.Fault.TheVariants.{OutOfSpec};
 ghost use Rattle.ipc_devices.specs.declared.fault.OutOfSpecKind.TheVariants.{UnexpectedNegativeInteger};
 ghost use Rattle.ipc_model.specs.Batches.{dictionary_meaning, extra_of};
-ghost use Rattle.ipc_model.specs.Files.{block_header, dictionaries_at, file_dictionaries, placed};
+ghost use Rattle.ipc_model.specs.Files.{block_header, dictionaries_at, placed};
+ghost use Rattle.ipc_files.specs.Api.{ReadsDictionaries};
 ghost use Rattle.ipc_files.specs.Batches.{BlockGiven, block_metadata};
-ghost use Rattle.ipc_files.specs.Dictionaries.{DictionariesReason, DictionaryReason, GivesKnown, HoldListed, HoldsHeader, IsDictionaryBlockFault, ValuesTaken, needed_dictionary, needed_values};
+ghost use Rattle.ipc_files.specs.Dictionaries.{DictionaryReason, GivesKnown, HoldsHeader, IsDictionaryBlockFault, needed_dictionary, needed_values};
 ghost use Rattle.ipc_files.specs.Footers.{file_seen};
 ghost use Rattle.ipc_read_flat.specs.Bodies.{array_under, known_dictionaries};
 ghost use Rattle.ipc_read.specs.HeldChunks.{HoldsValues};
@@ -48,18 +49,24 @@ fn read_values<R: Reads + Seeks>(
     ensures only { IfErr result (λ e. OwnFault e (IsDictionaryFault e)) }
     ensures blames { IfErr result (λ e. OwnFault e (BlamesDictionary (file_seen metadata.now).schema batch.entry e)) }
     ensures lists { IfErr result (TellsValues (file_seen metadata.now).schema (extra_of version) batch.entry metadata.now.size) }
-    ensures monotone { R.failures reader.old ≤ R.failures reader.new }
-    ensures failed { OnIo result (Rises (R.failures reader.old) (R.failures reader.new)) }
-    ensures told { UnlessIo result (R.failures reader.new ≡ R.failures reader.old) }
-    ensures given { R.given reader.new ≤ R.given reader.old + values_listed (file_seen metadata.now).schema (extra_of version) batch.entry }
+    ensures monotone { R.device.failures reader.old ≤ R.device.failures reader.new }
+    ensures failed { OnIo result
+        (Rises (R.device.failures reader.old) (R.device.failures reader.new)) }
+    ensures told { UnlessIo result (R.device.failures reader.new ≡ R.device.failures reader.old) }
+    ensures given { R.device.given reader.new
+        ≤ R.device.given reader.old
+        + values_listed (file_seen metadata.now).schema (extra_of version) batch.entry }
     ensures held { OnOk result (HoldsValues metadata.now.size (file_seen metadata.now).schema (extra_of version) batch.entry
         (λ id. array_under dictionaries.old id) (λ id. array_under dictionaries.new id)) }
-    ensures memory { IsTrue R.known → let m = file_seen metadata.now in
+    ensures memory { IsTrue R.device.is_memory → let m = file_seen metadata.now in
         GivesKnown (λ _. known_dictionaries dictionaries.new) result
         (dictionary_meaning m.schema (extra_of version) (known_dictionaries dictionaries.old)
-        (record { source = (R.memory reader.old).whole; base = body; size = m.size }) batch.entry) }
+        (record { source = (R.device.memory reader.old).whole; base = body; size = m.size })
+        batch.entry) }
     ensures idle { scratch.new ≡ scratch.old }
-    ensures whole { IsTrue R.still → (R.memory reader.new).whole ≡ (R.memory reader.old).whole }
+    ensures whole { IsTrue R.device.is_read_only
+        → (R.device.memory reader.new).whole ≡ (R.device.memory reader.old).whole }
+    ensures names { R.device.names reader.new ≡ R.device.names reader.old }
 {
     read_dictionary(
         alloc,
@@ -87,21 +94,33 @@ fn read_dictionary_block<R: Reads + Seeks>(
     data_scratch: &mut Vec<u8>,
 ) -> Result<(), Fault>
     ensures only { IfErr result (λ e. OwnFault e (IsDictionaryBlockFault e)) }
-    ensures monotone { R.failures reader.old ≤ R.failures reader.new }
-    ensures failed { OnIo result (Rises (R.failures reader.old) (R.failures reader.new)) }
-    ensures told { UnlessIo result (R.failures reader.new ≡ R.failures reader.old) }
-    ensures given { BlockGiven R.known (needed_values (file_seen metadata.now).schema)
-        (R.memory reader.old).whole (Some block.now)
-        message_scratch.new.items result (R.given reader.old) (R.given reader.new) }
+    ensures monotone { R.device.failures reader.old ≤ R.device.failures reader.new }
+    ensures failed { OnIo result
+        (Rises (R.device.failures reader.old) (R.device.failures reader.new)) }
+    ensures told { UnlessIo result (R.device.failures reader.new ≡ R.device.failures reader.old) }
+    ensures given { BlockGiven R.device.is_memory (needed_values (file_seen metadata.now).schema)
+        (R.device.memory reader.old).whole (Some block.now)
+        message_scratch.new.items result (R.device.given reader.old) (R.device.given reader.new) }
     ensures held { OnOk result (HoldsHeader metadata.now.size (file_seen metadata.now).schema (block_header message_scratch.new.items)
         (λ id. array_under dictionaries.old id) (λ id. array_under dictionaries.new id)) }
-    ensures message { IsTrue R.known → OnOk result (block_metadata (R.memory reader.old).whole (Some block.now) ≡ Some message_scratch.new.items) }
+    ensures message { IsTrue R.device.is_memory
+        → OnOk result
+        (block_metadata (R.device.memory reader.old).whole (Some block.now)
+        ≡ Some message_scratch.new.items) }
     ensures numbers { placed block.now ≡ None → result ≡ Err (OutOfSpec UnexpectedNegativeInteger) }
-    ensures reason { IsTrue R.known → IfErr result (λ e. OwnFault e (DictionaryReason (file_seen metadata.now) (R.memory reader.old).whole block.now e)) }
-    ensures memory { IsTrue R.known → GivesKnown (λ _. known_dictionaries dictionaries.new) result
-        (dictionaries_at (file_seen metadata.now) (known_dictionaries dictionaries.old) (R.memory reader.old).whole block.now) }
+    ensures reason { IsTrue R.device.is_memory
+        → IfErr result
+        (λ e. OwnFault e
+        (DictionaryReason (file_seen metadata.now) (R.device.memory reader.old).whole block.now
+        e)) }
+    ensures memory { IsTrue R.device.is_memory
+        → GivesKnown (λ _. known_dictionaries dictionaries.new) result
+        (dictionaries_at (file_seen metadata.now) (known_dictionaries dictionaries.old)
+        (R.device.memory reader.old).whole block.now) }
     ensures idle { data_scratch.new ≡ data_scratch.old }
-    ensures whole { IsTrue R.still → (R.memory reader.new).whole ≡ (R.memory reader.old).whole }
+    ensures whole { IsTrue R.device.is_read_only
+        → (R.device.memory reader.new).whole ≡ (R.device.memory reader.old).whole }
+    ensures names { R.device.names reader.new ≡ R.device.names reader.old }
 {
     let place = place_of(block, OutOfSpecKind::UnexpectedNegativeInteger)?;
     let negative = OutOfSpecKind::NegativeFooterLength;
@@ -160,20 +179,9 @@ pub fn read_file_dictionaries<R: Reads + Seeks>(
     metadata: &FileMetadata,
     scratch: &mut Vec<u8>,
 ) -> Result<Dictionaries, Fault>
-    ensures only { IfErr result (λ e. OwnFault e (IsDictionaryBlockFault e)) }
-    ensures monotone { R.failures reader.old ≤ R.failures reader.new }
-    ensures failed { OnIo result (Rises (R.failures reader.old) (R.failures reader.new)) }
-    ensures told { UnlessIo result (R.failures reader.new ≡ R.failures reader.old) }
-    ensures given { ValuesTaken R.known (file_seen metadata.now) (R.memory reader.old).whole result
-        (R.given reader.old) (R.given reader.new) }
-    ensures held { IfOk result (λ known. HoldListed R.known (file_seen metadata.now) (R.memory reader.old).whole (λ id. array_under known id)) }
-    ensures none { (file_seen metadata.now).dictionaries ≡ [] → IsOk result }
-    ensures reason { IsTrue R.known → let m = file_seen metadata.now in
-        IfErr result (λ e. OwnFault e (DictionariesReason m (R.memory reader.old).whole [] m.dictionaries e)) }
-    ensures memory { IsTrue R.known → GivesKnown (λ known. known_dictionaries known) result
-        (file_dictionaries (file_seen metadata.now) (R.memory reader.old).whole) }
+    ensures dictionaries { ReadsDictionaries R.device (file_seen metadata.now) reader.old result
+        reader.new }
     ensures idle { scratch.new ≡ scratch.old }
-    ensures whole { IsTrue R.still → (R.memory reader.new).whole ≡ (R.memory reader.old).whole }
 {
     let mut dictionaries = HashMap::new(alloc);
     let mut message = Vec::new(alloc);

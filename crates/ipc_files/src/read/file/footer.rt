@@ -91,7 +91,8 @@ fn read_schema(alloc: Global, footer: &FooterRef<'_>) -> Result<(Schema, IpcSche
 /// - Those of [`fb_to_schema`] for the schema; `Memory`.
 #[tactic(auto, unfolding(ipc_model::specs::Files::footer_at))]
 pub fn deserialize_footer(alloc: Global, footer: &[u8], size: u64) -> Result<FileMetadata, Fault>
-    ensures meaning { GivesPart file_seen result (given (made (root_at footer.now)) (footer_at size)) }
+    ensures meaning { GivesPart file_seen result
+        (given (made (root_at footer.now)) (footer_at size)) }
     ensures only { IfErr result (λ e. RootFault e (root_at footer.now)) }
     ensures fits { IfOk result (λ m. AllFit (fields_view m.schema.fields.items)
         (all_ids_view m.ipc_schema.fields.items)) }

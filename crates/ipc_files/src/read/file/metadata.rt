@@ -1,14 +1,11 @@
 //! The metadata of a file, which are in its footer.
-ghost use Rattle.std.specs.Prelude.{◌≡◌, ◌+◌, ◌≤◌, ◌<◌, ◌^◌, ◌⊎◌, length, take, IsTrue, IfOk, IfErr, OnOk};
+ghost use Rattle.std.specs.Prelude.{◌≡◌, ◌+◌, ◌≤◌, ◌<◌, ◌^◌, take, IsTrue, IfOk, IfErr};
 ghost use Rattle.ipc_devices.specs.Device.{Rises, after};
 ghost use Rattle.ipc_devices.specs.Faults.{OnIo, UnlessIo, OwnFault, Answers};
-ghost use Rattle.ipc_devices.specs.declared.fault.Fault.TheVariants.{Ended};
-ghost use Rattle.lower.specs.TypeViews.{fields_view, schema_view, pairs_of};
-ghost use Rattle.ipc_base.specs.Fitting.{AllFit};
-ghost use Rattle.ipc_base.specs.IdTrees.{all_ids_view, ipc_schema_view};
-ghost use Rattle.ipc_model.specs.Files.{magic, metadata_of, or_no_blocks};
-ghost use Rattle.ipc_files.specs.Footers.{file_seen, optional_blocks, GivesPart};
-ghost use Rattle.ipc_files.specs.Files.{BeginningLaw, EndsFault, FileFault, FileReason, FooterGiven, GivesFooter, HeadFault, HeadReason, ReadsFooter, TailFault, TailReason, GivesTail, footer_length, metadata_from};
+ghost use Rattle.ipc_model.specs.Files.{magic, or_no_blocks};
+ghost use Rattle.ipc_files.specs.Api.{CopiesMetadata, ReadsMetadata};
+ghost use Rattle.ipc_files.specs.Footers.{optional_blocks};
+ghost use Rattle.ipc_files.specs.Files.{BeginningLaw, EndsFault, GivesFooter, HeadFault, HeadReason, ReadsFooter, TailFault, TailReason, GivesTail, footer_length};
 
 use crate::read::file::exact::read_exact;
 use crate::read::file::footer::deserialize_footer;
@@ -56,15 +53,9 @@ impl FileMetadata {
 
     /// Makes a copy. `AllocError` if an allocation fails.
     pub fn clone(&self) -> Result<FileMetadata, AllocError>
-        ensures schema { IfOk result (λ copy. schema_view copy.schema ≡ schema_view self.now.schema) }
-        ensures ids { IfOk result (λ copy.
-            ipc_schema_view copy.ipc_schema ≡ ipc_schema_view self.now.ipc_schema) }
-        ensures blocks { IfOk result (λ copy. copy.blocks.items ≡ self.now.blocks.items) }
+        ensures copy { IfOk result (λ copy. CopiesMetadata self.now copy) }
         ensures dictionaries { IfOk result (λ copy.
             optional_blocks copy.dictionaries ≡ optional_blocks self.now.dictionaries) }
-        ensures size { IfOk result (λ copy. copy.size ≡ self.now.size) }
-        ensures pairs { IfOk result (λ copy.
-            pairs_of copy.custom_metadata.entries ≡ pairs_of self.now.custom_metadata.entries) }
     {
         let dictionaries = match &self.dictionaries {
             Some(blocks) => Some(blocks.clone()?),
@@ -89,15 +80,19 @@ pub fn files_from_the_beginning()
 // Checks that a file begins with `ARROW1`.
 fn read_head<R: Reads>(reader: &mut R) -> Result<(), Fault>
     ensures only { IfErr result (λ e. OwnFault e (HeadFault e)) }
-    ensures monotone { R.failures reader.old ≤ R.failures reader.new }
-    ensures failed { OnIo result (Rises (R.failures reader.old) (R.failures reader.new)) }
-    ensures told { UnlessIo result (R.failures reader.new ≡ R.failures reader.old) }
-    ensures given { R.given reader.new ≤ R.given reader.old + 6 }
-    ensures reason { IsTrue R.known → IfErr result (λ e. OwnFault e (HeadReason (after (R.memory reader.old)) e)) }
-    ensures memory { IsTrue R.known → Answers result
-        (take 6 (after (R.memory reader.old)) ≡ magic)
+    ensures monotone { R.device.failures reader.old ≤ R.device.failures reader.new }
+    ensures failed { OnIo result
+        (Rises (R.device.failures reader.old) (R.device.failures reader.new)) }
+    ensures told { UnlessIo result (R.device.failures reader.new ≡ R.device.failures reader.old) }
+    ensures given { R.device.given reader.new ≤ R.device.given reader.old + 6 }
+    ensures reason { IsTrue R.device.is_memory
+        → IfErr result (λ e. OwnFault e (HeadReason (after (R.device.memory reader.old)) e)) }
+    ensures memory { IsTrue R.device.is_memory → Answers result
+        (take 6 (after (R.device.memory reader.old)) ≡ magic)
         (λ _. Unit {0}) }
-    ensures whole { IsTrue R.still → (R.memory reader.new).whole ≡ (R.memory reader.old).whole }
+    ensures whole { IsTrue R.device.is_read_only
+        → (R.device.memory reader.new).whole ≡ (R.device.memory reader.old).whole }
+    ensures names { R.device.names reader.new ≡ R.device.names reader.old }
 {
     let mut head = [0; 6];
     read_exact(reader, &mut head)?;
@@ -135,13 +130,18 @@ fn read_footer_len<R: Reads + Seeks>(reader: &mut R) -> Result<(u64, u32), Fault
     ensures inside { IfOk result (λ t. t.1 + 10 ≤ t.0) }
     ensures short { IfOk result (λ t. t.1 < 2 ^ 31) }
     ensures only { IfErr result (λ e. OwnFault e (TailFault e)) }
-    ensures monotone { R.failures reader.old ≤ R.failures reader.new }
-    ensures failed { OnIo result (Rises (R.failures reader.old) (R.failures reader.new)) }
-    ensures told { UnlessIo result (R.failures reader.new ≡ R.failures reader.old) }
-    ensures given { R.given reader.new ≤ R.given reader.old + 10 }
-    ensures reason { IsTrue R.known → IfErr result (λ e. OwnFault e (TailReason (R.memory reader.old).whole e)) }
-    ensures memory { IsTrue R.known → GivesTail (R.memory reader.old).whole result }
-    ensures whole { IsTrue R.still → (R.memory reader.new).whole ≡ (R.memory reader.old).whole }
+    ensures monotone { R.device.failures reader.old ≤ R.device.failures reader.new }
+    ensures failed { OnIo result
+        (Rises (R.device.failures reader.old) (R.device.failures reader.new)) }
+    ensures told { UnlessIo result (R.device.failures reader.new ≡ R.device.failures reader.old) }
+    ensures given { R.device.given reader.new ≤ R.device.given reader.old + 10 }
+    ensures reason { IsTrue R.device.is_memory
+        → IfErr result (λ e. OwnFault e (TailReason (R.device.memory reader.old).whole e)) }
+    ensures memory { IsTrue R.device.is_memory
+        → GivesTail (R.device.memory reader.old).whole result }
+    ensures whole { IsTrue R.device.is_read_only
+        → (R.device.memory reader.new).whole ≡ (R.device.memory reader.old).whole }
+    ensures names { R.device.names reader.new ≡ R.device.names reader.old }
 {
     let end = reader.seek_end()?;
     if end < 10 {
@@ -182,10 +182,9 @@ pub struct FileFooter {
 /// After an error the reader may be at any position.
 pub fn read_footer<R: Reads + Seeks>(alloc: Global, reader: &mut R) -> Result<FileFooter, Fault>
     ensures only { IfErr result (λ e. OwnFault e (EndsFault e)) }
-    ensures device { ReadsFooter R.known R.still R.memory R.failures R.given
-        reader.old result reader.new }
-    ensures memory { IsTrue R.known →
-        GivesFooter (R.memory reader.old).place (R.memory reader.old).whole result }
+    ensures device { ReadsFooter R.device reader.old result reader.new }
+    ensures memory { IsTrue R.device.is_memory →
+        GivesFooter (R.device.memory reader.old).place (R.device.memory reader.old).whole result }
 {
     let start = reader.position()?;
     read_head(reader)?;
@@ -224,21 +223,7 @@ pub fn read_file_metadata<R: Reads + Seeks>(
     alloc: Global,
     reader: &mut R,
 ) -> Result<FileMetadata, Fault>
-    ensures only { IfErr result (λ e. OwnFault e (FileFault e)) }
-    ensures fits { IfOk result (λ m. AllFit (fields_view m.schema.fields.items)
-        (all_ids_view m.ipc_schema.fields.items)) }
-    ensures monotone { R.failures reader.old ≤ R.failures reader.new }
-    ensures failed { OnIo result (Rises (R.failures reader.old) (R.failures reader.new)) }
-    ensures told { UnlessIo result (R.failures reader.new ≡ R.failures reader.old) }
-    ensures given { OnOk result (FooterGiven R.known (R.memory reader.old).whole (R.given reader.old) (R.given reader.new)) }
-    ensures taken { (R.given reader.new ≤ R.given reader.old + 16)
-        ⊎ FooterGiven R.known (R.memory reader.old).whole
-        (R.given reader.old) (R.given reader.new) }
-    ensures reason { IsTrue R.known → IfErr result (λ e. OwnFault e (FileReason (R.memory reader.old).place (R.memory reader.old).whole e)) }
-    ensures anywhere { IsTrue R.known → GivesPart file_seen result (metadata_from (R.memory reader.old).place (R.memory reader.old).whole) }
-    ensures memory { IsTrue R.known → (R.memory reader.old).place ≡ 0
-        → GivesPart file_seen result (metadata_of (R.memory reader.old).whole) }
-    ensures whole { IsTrue R.still → (R.memory reader.new).whole ≡ (R.memory reader.old).whole }
+    ensures { ReadsMetadata R.device reader.old result reader.new }
 {
     let footer = read_footer(alloc, reader)?;
     deserialize_footer(alloc, &footer.bytes, footer.size)

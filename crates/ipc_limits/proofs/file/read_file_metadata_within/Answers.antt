@@ -5,14 +5,14 @@ use Rattle.ipc_limits.proofs.file.read_file_metadata_within.Goals as goal
 
 pub returns-in_err-footer-clause-memory : goal.returns-in_err-footer-clause-memory
 returns-in_err-footer-clause-memory g c = λ k.
-    let m = g.R.Failures.memory c.args.reader.now in
+    let m = g.R.Failures.device.memory c.args.reader.now in
     let e = c.in_err-footer.field-0.0 in
     let is : c.from_residual.result ≡ Err e = search rules in
     rw is (within_ends c.args.limit m.place m.whole e c.in_err-footer.ensures.only (c.in_err-footer.ensures.memory k))
 
 pub returns-clause-memory : goal.returns-clause-memory
 returns-clause-memory g c = λ k.
-    let m = g.R.Failures.memory c.args.reader.now in
+    let m = g.R.Failures.device.memory c.args.reader.now in
     let x = c.in_ok-footer.ensures.memory k in
     let footer = c.deref-2.result.now in
     let cheap : footer_cost c.deref.result.now ≤ c.args.limit = search rules in

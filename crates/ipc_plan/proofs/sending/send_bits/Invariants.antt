@@ -1,7 +1,6 @@
 use Rattle.std.proofs.Common.{◌≡◌, ◌≤◌, ◌-◌, length, map}
 use Rattle.std.specs.List.{range_with_len}
 use Rattle.ipc_model.specs.Entries.{bytes_for}
-use Rattle.ipc_plan.specs.Sending.{seen_by}
 use Rattle.ipc_plan.specs.Pieces.{packed, packed_byte}
 use Rattle.ipc_plan.proofs.Sends.{SentBefore}
 use Rattle.ipc_plan.proofs.sending.send_bits.Given as goal
@@ -11,9 +10,7 @@ abbrev pub invariant-loop-done : goal.invariant-loop-done
 invariant-loop-done g l = record {
   within : l.done ≤ bytes_for l.count;
   block : length l.block ≡ 4096;
-  sent : SentBefore g.W.Failures.known g.W.Writes.grows
-      (seen_by g.W.Failures.failures g.W.Writes.room g.W.Failures.memory l.fn.writer)
-      (seen_by g.W.Failures.failures g.W.Writes.room g.W.Failures.memory l.writer)
+  sent : SentBefore g.W.Failures.device l.fn.writer l.writer
       (map (packed_byte l.bytes l.start l.count) (range_with_len l.done (bytes_for l.count - l.done))) (packed l.bytes l.start l.count);
 }
 

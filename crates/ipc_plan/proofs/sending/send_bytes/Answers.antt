@@ -14,8 +14,8 @@ loop-at-preserved g c =
     let room : n ≤ length (drop at bytes) = subst (λ (xs : List ℕ). n ≤ length xs) rest e.bound in
     record {
       within = omega (arith, room, length-drop at bytes, c.loop-at.invariant.within);
-      sent = before_more _ _ _ _ _ tt _ _ (drop (at + n) bytes) bytes c.loop-at.invariant.sent (split_drop at n bytes _ rest)
-          (one_write _ _ _ _ n _ e.bound e.done e.memory e.room);
+      sent = before_more _ _ _ _ tt _ _ (drop (at + n) bytes) bytes c.loop-at.invariant.sent (split_drop at n bytes _ rest)
+          (one_write _ _ _ n _ e.bound e.done e.memory e.room e.names);
     }
 
 pub returns-in_err-at : goal.returns-in_err-at
@@ -25,8 +25,8 @@ returns-in_err-at g c =
     let w = c.in_err-at.ensures in
     let e = err_from_is_err_and c.from_residual.result c.from_residual.ensures.1 in
     let rest = take_rest bytes at in
-    rw (e.1, e.2) (before_stop {X = Unit {0}} _ _ _ _ _ _ (drop at bytes) _ [] bytes c.loop-at.invariant.sent (sym (append-nil _ ∙ rest))
-    (no_write _ _ _ _ _ _ tt w.monotone w.failed w.refused))
+    rw (e.1, e.2) (before_stop {X = Unit {0}} _ _ _ _ _ (drop at bytes) _ [] bytes c.loop-at.invariant.sent (sym (append-nil _ ∙ rest))
+    (no_write _ _ _ _ _ tt w.monotone w.failed w.refused w.names))
 
 pub loop-at-init : goal.loop-at-init
-loop-at-init g c = record { within = omega arith; sent = before_none _ _ _ _ _ refl }
+loop-at-init g c = record { within = omega arith; sent = before_none _ _ _ _ refl }

@@ -1,5 +1,4 @@
 use Rattle.std.proofs.Common.{◌≤◌, ◌-◌, drop, length}
-use Rattle.ipc_plan.specs.Sending.{seen_by}
 use Rattle.ipc_plan.proofs.Sends.{SentBefore}
 use Rattle.ipc_plan.proofs.sending.send_bytes.Given as goal
 
@@ -7,9 +6,7 @@ use Rattle.ipc_plan.proofs.sending.send_bytes.Given as goal
 abbrev pub invariant-loop-at : goal.invariant-loop-at
 invariant-loop-at g l = record {
   within : l.at ≤ length l.bytes;
-  sent : SentBefore g.W.Failures.known g.W.Writes.grows
-      (seen_by g.W.Failures.failures g.W.Writes.room g.W.Failures.memory l.fn.writer)
-      (seen_by g.W.Failures.failures g.W.Writes.room g.W.Failures.memory l.writer)
+  sent : SentBefore g.W.Failures.device l.fn.writer l.writer
       (drop l.at l.bytes) l.bytes;
 }
 

@@ -1,6 +1,5 @@
 use Rattle.std.proofs.Common.{◌≡◌, ◌*◌, ◌≤◌, length}
 use Rattle.std.specs.List.{flat_map}
-use Rattle.ipc_plan.specs.Sending.{seen_by}
 use Rattle.ipc_plan.proofs.Sends.{SentBefore}
 use Rattle.ipc_plan.proofs.sending.send_numbers.Given as goal
 
@@ -9,8 +8,6 @@ abbrev pub invariant-pieces : goal.invariant-pieces
 invariant-pieces g l = record {
   size : g.T.NativeType.width * l.piece-iterator.size ≤ 4096;
   block : length l.block ≡ 4096;
-  sent : SentBefore g.W.Failures.known g.W.Writes.grows
-      (seen_by g.W.Failures.failures g.W.Writes.room g.W.Failures.memory l.fn.writer)
-      (seen_by g.W.Failures.failures g.W.Writes.room g.W.Failures.memory l.writer)
+  sent : SentBefore g.W.Failures.device l.fn.writer l.writer
       (flat_map (g.T.NativeType.spelt l.order) l.piece-iterator.rest.now) (flat_map (g.T.NativeType.spelt l.order) l.values);
 }

@@ -1,5 +1,4 @@
 use Rattle.std.proofs.Common.{◌≡◌, drop, length}
-use Rattle.ipc_plan.specs.Sending.{seen_by}
 use Rattle.ipc_plan.specs.Pieces.{pieces_bytes}
 use Rattle.ipc_plan.proofs.Sends.{SentBefore}
 use Rattle.ipc_plan.proofs.sending.send_pieces.Given as goal
@@ -8,8 +7,6 @@ use Rattle.ipc_plan.proofs.sending.send_pieces.Given as goal
 abbrev pub invariant-loop-piece : goal.invariant-loop-piece
 invariant-loop-piece g l = record {
   block : length l.block ≡ 4096;
-  sent : SentBefore g.W.Failures.known g.W.Writes.grows
-      (seen_by g.W.Failures.failures g.W.Writes.room g.W.Failures.memory l.fn.writer)
-      (seen_by g.W.Failures.failures g.W.Writes.room g.W.Failures.memory l.writer)
+  sent : SentBefore g.W.Failures.device l.fn.writer l.writer
       (pieces_bytes l.order (drop l.piece-index l.pieces)) (pieces_bytes l.order l.pieces);
 }

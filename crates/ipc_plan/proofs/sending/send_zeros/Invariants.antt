@@ -1,13 +1,10 @@
 use Rattle.std.proofs.Common.{replicate}
-use Rattle.ipc_plan.specs.Sending.{seen_by}
 use Rattle.ipc_plan.proofs.Sends.{SentBefore}
 use Rattle.ipc_plan.proofs.sending.send_zeros.Given as goal
 
 abbrev pub invariant-loop-left : goal.invariant-loop-left
 invariant-loop-left g l =
-    SentBefore g.W.Failures.known g.W.Writes.grows
-    (seen_by g.W.Failures.failures g.W.Writes.room g.W.Failures.memory l.fn.writer)
-    (seen_by g.W.Failures.failures g.W.Writes.room g.W.Failures.memory l.writer)
+    SentBefore g.W.Failures.device l.fn.writer l.writer
     (replicate l.left 0) (replicate l.count 0)
 
 abbrev pub decreases-loop-left : goal.decreases-loop-left

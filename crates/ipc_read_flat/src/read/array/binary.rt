@@ -45,16 +45,20 @@ pub fn read_binary<O: StoredOffset, R: Reads + Seeks>(
 ) -> Result<BinaryArray<O>, Fault>
     requires lies { physical (type_view data_type.now) ≡ bytes_with O.primitive }
     requires room { HasRoom body.now place 1 3 }
-    requires stands { KeepsBytes R.still R.memory reader.old body.now }
+    requires stands { KeepsBytes R.device reader.old body.now }
     ensures only { IfErr result (λ e. OwnFault e (IsColumnFault e)) }
-    ensures tells { IfErr result (λ e. OwnFault e (TellsEntries R.known (entries R.memory body.now) e)) }
-    ensures step { let s = entries R.memory body.now in
-        Step R.still R.memory R.failures R.given body.now
-        (listed s place.buffer + listed s (place.buffer + 1) + listed s (place.buffer + 1 + 1)) reader.old result reader.new }
-    ensures held { IfOk result (λ array. HoldsListed (entries R.memory body.now) body.now.extra (binary_kind O.form) place.buffer (bytes_layout O.primitive array)) }
-    ensures memory { IsTrue R.known → let s = entries R.memory body.now in
+    ensures tells { IfErr result
+        (λ e. OwnFault e (TellsEntries R.device.is_memory (entries R.device body.now) e)) }
+    ensures step { let s = entries R.device body.now in
+        Step R.device body.now
+        (listed s place.buffer + listed s (place.buffer + 1) + listed s (place.buffer + 1 + 1))
+        reader.old result reader.new }
+    ensures held { IfOk result (λ array. HoldsListed (entries R.device body.now) body.now.extra
+        (binary_kind O.form) place.buffer (bytes_layout O.primitive array)) }
+    ensures memory { IsTrue R.device.is_memory → let s = entries R.device body.now in
         Answers result (IsWell s (binary_kind O.form) place.node place.buffer limit)
-        (λ array. bytes_layout O.primitive array ≡ array_at s (known body.now) (binary_kind O.form) (type_view data_type.now) place.node place.buffer limit) }
+        (λ array. bytes_layout O.primitive array ≡ array_at s (known body.now)
+        (binary_kind O.form) (type_view data_type.now) place.node place.buffer limit) }
 {
     let head = read_head(alloc, reader, body, place, limit)?;
     let index = place.buffer + 1;

@@ -50,10 +50,13 @@ pub fn shared_values<R: Failures>(
 ) -> Result<Rc<AnyArray>, Fault>
     ensures own { OnIo result ⊥ }
     ensures only { IfErr result (λ e. OwnFault e (IsColumnFault e)) }
-    ensures tells { IfErr result (λ e. OwnFault e (TellsEntries R.known (entries R.memory body.now) e)) }
-    ensures why { IfErr result (λ e. OwnFault e (RefusesValues (entries R.memory body.now) id (norm (type_view value_type.now)) e)) }
+    ensures tells { IfErr result
+        (λ e. OwnFault e (TellsEntries R.device.is_memory (entries R.device body.now) e)) }
+    ensures why { IfErr result (λ e. OwnFault e
+        (RefusesValues (entries R.device body.now) id (norm (type_view value_type.now)) e)) }
     ensures named { IfOk result (λ values. norm (type_of (layout_of values.value)) ≡ norm (type_view value_type.now)) }
-    ensures exact { Answers result (values_type (entries R.memory body.now) id ≡ Some (norm (type_view value_type.now)))
+    ensures exact { Answers result (values_type (entries R.device body.now) id
+        ≡ Some (norm (type_view value_type.now)))
         (λ values. layout_of values.value ≡ known body.now id) }
 {
     let Some(requested_id) = id else {
@@ -82,15 +85,20 @@ pub fn read_keys<R: Reads + Seeks>(
 ) -> Result<DictionaryKeys, Fault>
     requires typed { type_view data_type.now ≡ plain (integer keys) }
     requires room { HasRoom body.now place 1 2 }
-    requires stands { KeepsBytes R.still R.memory reader.old body.now }
+    requires stands { KeepsBytes R.device reader.old body.now }
     ensures only { IfErr result (λ e. OwnFault e (IsBufferFault e)) }
-    ensures tells { IfErr result (λ e. OwnFault e (TellsEntries R.known (entries R.memory body.now) e)) }
-    ensures step { let s = entries R.memory body.now in
-        Step R.still R.memory R.failures R.given body.now (listed s place.buffer + listed s (place.buffer + 1)) reader.old result reader.new }
-    ensures held { let s = entries R.memory body.now in IfOk result (λ read. keys_held (keys_seen read) ≤ listed s place.buffer + listed s (place.buffer + 1)) }
-    ensures memory { IsTrue R.known → let s = entries R.memory body.now in
+    ensures tells { IfErr result
+        (λ e. OwnFault e (TellsEntries R.device.is_memory (entries R.device body.now) e)) }
+    ensures step { let s = entries R.device body.now in
+        Step R.device body.now
+        (listed s place.buffer + listed s (place.buffer + 1)) reader.old result reader.new }
+    ensures held { let s = entries R.device body.now in IfOk result
+        (λ read. keys_held (keys_seen read)
+        ≤ listed s place.buffer + listed s (place.buffer + 1)) }
+    ensures memory { IsTrue R.device.is_memory → let s = entries R.device body.now in
         Answers result (IsWell s (number_kind (key_form keys)) place.node place.buffer limit)
-        (λ read. keys_seen read ≡ keys_at s keys place.node place.buffer (rows s place.node limit)) }
+        (λ read. keys_seen read ≡ keys_at s keys place.node place.buffer
+        (rows s place.node limit)) }
 {
     match keys {
         IntegerType::Int8 => {
@@ -178,18 +186,23 @@ pub fn read_dictionary<R: Reads + Seeks>(
     requires lies { physical (type_view own.now) ≡ Dictionary keys }
     requires named { named_type (type_view own.now) ≡ type_view value_type.now }
     requires room { HasRoom body.now place 1 2 }
-    requires stands { KeepsBytes R.still R.memory reader.old body.now }
+    requires stands { KeepsBytes R.device reader.old body.now }
     ensures only { IfErr result (λ e. OwnFault e (IsColumnFault e)) }
-    ensures tells { IfErr result (λ e. OwnFault e (TellsEntries R.known (entries R.memory body.now) e)) }
+    ensures tells { IfErr result
+        (λ e. OwnFault e (TellsEntries R.device.is_memory (entries R.device body.now) e)) }
     ensures step { let t = dictionary_kind (key_form keys) id (norm (type_view value_type.now)) in
-        Step R.still R.memory R.failures R.given body.now (listed_in (entries R.memory body.now) body.now.extra t place.buffer) reader.old result reader.new }
+        Step R.device body.now
+        (listed_in (entries R.device body.now) body.now.extra t place.buffer) reader.old
+        result reader.new }
     ensures next { IfOk result (λ r. IsBehind body.now.extra (dictionary_kind (key_form keys) id (norm (type_view value_type.now))) place r.1) }
     ensures held { let t = dictionary_kind (key_form keys) id (norm (type_view value_type.now)) in
-        IfOk result (λ r. HoldsListed (entries R.memory body.now) body.now.extra t place.buffer (layout_of r.0)) }
-    ensures memory { IsTrue R.known → let s = entries R.memory body.now in
+        IfOk result (λ r. HoldsListed (entries R.device body.now) body.now.extra t place.buffer
+        (layout_of r.0)) }
+    ensures memory { IsTrue R.device.is_memory → let s = entries R.device body.now in
         let t = dictionary_kind (key_form keys) id (norm (type_view value_type.now)) in
         Answers result (IsWell s t place.node place.buffer limit)
-        (λ r. layout_of r.0 ≡ array_at s (known body.now) t (type_view own.now) place.node place.buffer limit) }
+        (λ r. layout_of r.0 ≡ array_at s (known body.now) t (type_view own.now) place.node
+        place.buffer limit) }
 {
     let values = shared_values(value_type, id, body)?;
     let key_type = DataType::from(keys);

@@ -58,16 +58,20 @@ pub fn read_fixed_size_binary<R: Reads + Seeks>(
     requires lies { physical (type_view data_type.now) ≡ FixedSizeBinary }
     requires named { byte_size (type_view data_type.now) ≡ size }
     requires room { HasRoom body.now place 1 2 }
-    requires stands { KeepsBytes R.still R.memory reader.old body.now }
+    requires stands { KeepsBytes R.device reader.old body.now }
     ensures only { IfErr result (λ e. OwnFault e (IsColumnFault e)) }
-    ensures tells { IfErr result (λ e. OwnFault e (TellsEntries R.known (entries R.memory body.now) e)) }
-    ensures step { let s = entries R.memory body.now in
-        Step R.still R.memory R.failures R.given body.now (listed s place.buffer + listed s (place.buffer + 1)) reader.old result reader.new }
-    ensures held { IfOk result (λ array. HoldsListed (entries R.memory body.now) body.now.extra (fixed_binary_kind size) place.buffer (fixed_layout array)) }
-    ensures memory { IsTrue R.known → let s = entries R.memory body.now in
+    ensures tells { IfErr result
+        (λ e. OwnFault e (TellsEntries R.device.is_memory (entries R.device body.now) e)) }
+    ensures step { let s = entries R.device body.now in
+        Step R.device body.now
+        (listed s place.buffer + listed s (place.buffer + 1)) reader.old result reader.new }
+    ensures held { IfOk result (λ array. HoldsListed (entries R.device body.now) body.now.extra
+        (fixed_binary_kind size) place.buffer (fixed_layout array)) }
+    ensures memory { IsTrue R.device.is_memory → let s = entries R.device body.now in
         Answers result (IsWell s (fixed_binary_kind size) place.node place.buffer limit)
         (λ array. fixed_layout array
-        ≡ array_at s (known body.now) (fixed_binary_kind size) (type_view data_type.now) place.node place.buffer limit) }
+        ≡ array_at s (known body.now) (fixed_binary_kind size) (type_view data_type.now)
+        place.node place.buffer limit) }
 {
     if size == 0 {
         return Err(Fault::OutOfSpec(OutOfSpecKind::InvalidDataType));

@@ -33,11 +33,13 @@ pub fn read_null<R: Failures>(
     requires lies { physical (type_view data_type.now) ≡ Null }
     requires room { HasRoom body.now place 1 0 }
     ensures only { IfErr result (λ e. OwnFault e (IsColumnFault e)) }
-    ensures tells { IfErr result (λ e. OwnFault e (TellsEntries R.known (entries R.memory body.now) e)) }
+    ensures tells { IfErr result
+        (λ e. OwnFault e (TellsEntries R.device.is_memory (entries R.device body.now) e)) }
     ensures own { OnIo result ⊥ }
-    ensures exact { let s = entries R.memory body.now in
+    ensures exact { let s = entries R.device body.now in
         Answers result (IsWell s null_kind place.node place.buffer limit)
-        (λ array. null_layout array ≡ array_at s (known body.now) null_kind (type_view data_type.now) place.node place.buffer limit) }
+        (λ array. null_layout array ≡ array_at s (known body.now) null_kind
+        (type_view data_type.now) place.node place.buffer limit) }
 {
     let node = read_node(body, place.node, limit)?;
     let data_type = data_type.clone()?;

@@ -46,16 +46,20 @@ pub fn read_primitive<T: NativeType, R: Reads + Seeks>(
 ) -> Result<PrimitiveArray<T>, Fault>
     requires lies { physical (type_view data_type.now) ≡ Primitive T.primitive }
     requires room { HasRoom body.now place 1 2 }
-    requires stands { KeepsBytes R.still R.memory reader.old body.now }
+    requires stands { KeepsBytes R.device reader.old body.now }
     ensures only { IfErr result (λ e. OwnFault e (IsBufferFault e)) }
-    ensures tells { IfErr result (λ e. OwnFault e (TellsEntries R.known (entries R.memory body.now) e)) }
-    ensures step { let s = entries R.memory body.now in
-        Step R.still R.memory R.failures R.given body.now (listed s place.buffer + listed s (place.buffer + 1)) reader.old result reader.new }
-    ensures held { IfOk result (λ array. HoldsListed (entries R.memory body.now) body.now.extra (number_kind T.primitive) place.buffer (primitive_layout T.primitive T.number array)) }
-    ensures memory { IsTrue R.known → let s = entries R.memory body.now in
+    ensures tells { IfErr result
+        (λ e. OwnFault e (TellsEntries R.device.is_memory (entries R.device body.now) e)) }
+    ensures step { let s = entries R.device body.now in
+        Step R.device body.now
+        (listed s place.buffer + listed s (place.buffer + 1)) reader.old result reader.new }
+    ensures held { IfOk result (λ array. HoldsListed (entries R.device body.now) body.now.extra
+        (number_kind T.primitive) place.buffer (primitive_layout T.primitive T.number array)) }
+    ensures memory { IsTrue R.device.is_memory → let s = entries R.device body.now in
         Answers result (IsWell s (number_kind T.primitive) place.node place.buffer limit)
         (λ array. primitive_layout T.primitive T.number array
-        ≡ array_at s (known body.now) (number_kind T.primitive) (type_view data_type.now) place.node place.buffer limit) }
+        ≡ array_at s (known body.now) (number_kind T.primitive) (type_view data_type.now)
+        place.node place.buffer limit) }
 {
     let head = read_head(alloc, reader, body, place, limit)?;
     let values = fetch_numbers(alloc, reader, body, place.buffer + 1, head.rows)?;
@@ -79,16 +83,20 @@ pub fn read_any_primitive<R: Reads + Seeks>(
     requires exact { IsExact primitive }
     requires lies { physical (type_view data_type.now) ≡ Primitive primitive }
     requires room { HasRoom body.now place 1 2 }
-    requires stands { KeepsBytes R.still R.memory reader.old body.now }
+    requires stands { KeepsBytes R.device reader.old body.now }
     ensures only { IfErr result (λ e. OwnFault e (IsBufferFault e)) }
-    ensures tells { IfErr result (λ e. OwnFault e (TellsEntries R.known (entries R.memory body.now) e)) }
-    ensures step { let s = entries R.memory body.now in
-        Step R.still R.memory R.failures R.given body.now (listed s place.buffer + listed s (place.buffer + 1)) reader.old result reader.new }
-    ensures held { IfOk result (λ array. HoldsListed (entries R.memory body.now) body.now.extra (number_kind primitive) place.buffer (any_primitive_layout array)) }
-    ensures memory { IsTrue R.known → let s = entries R.memory body.now in
+    ensures tells { IfErr result
+        (λ e. OwnFault e (TellsEntries R.device.is_memory (entries R.device body.now) e)) }
+    ensures step { let s = entries R.device body.now in
+        Step R.device body.now
+        (listed s place.buffer + listed s (place.buffer + 1)) reader.old result reader.new }
+    ensures held { IfOk result (λ array. HoldsListed (entries R.device body.now) body.now.extra
+        (number_kind primitive) place.buffer (any_primitive_layout array)) }
+    ensures memory { IsTrue R.device.is_memory → let s = entries R.device body.now in
         Answers result (IsWell s (number_kind primitive) place.node place.buffer limit)
         (λ array. any_primitive_layout array
-        ≡ array_at s (known body.now) (number_kind primitive) (type_view data_type.now) place.node place.buffer limit) }
+        ≡ array_at s (known body.now) (number_kind primitive) (type_view data_type.now) place.node
+        place.buffer limit) }
 {
     match primitive {
         PrimitiveType::Int8 => {

@@ -63,18 +63,25 @@ pub fn read_list_head<R: Reads + Seeks>(
     is_large: bool,
 ) -> Result<ListHead, Fault>
     requires room { HasRoom body.now place 1 2 }
-    requires stands { KeepsBytes R.still R.memory reader.old body.now }
+    requires stands { KeepsBytes R.device reader.old body.now }
     ensures only { IfErr result (λ e. OwnFault e (IsColumnFault e)) }
-    ensures tells { IfErr result (λ e. OwnFault e (TellsEntries R.known (entries R.memory body.now) e)) }
-    ensures step { let s = entries R.memory body.now in
-        Step R.still R.memory R.failures R.given body.now (listed s place.buffer + listed s (place.buffer + 1)) reader.old result reader.new }
+    ensures tells { IfErr result
+        (λ e. OwnFault e (TellsEntries R.device.is_memory (entries R.device body.now) e)) }
+    ensures step { let s = entries R.device body.now in
+        Step R.device body.now
+        (listed s place.buffer + listed s (place.buffer + 1)) reader.old result reader.new }
     ensures width { IfOk result (λ h. list_width h.offsets ≡ offset_type (form_of is_large)) }
     ensures made { IfOk result (λ h. AreLists (list_places h.offsets) h.validity h.last) }
-    ensures held { let s = entries R.memory body.now in IfOk result (λ h. (validity_held h.validity ≤ listed s place.buffer)
-        × HoldsOffsets s (form_of is_large) (place.buffer + 1) (list_width h.offsets) (list_places h.offsets)) }
-    ensures memory { IsTrue R.known → let s = entries R.memory body.now in let k = rows s place.node limit in
-        Answers result (Begins s place.node place.buffer k × Offsets s (place.buffer + 1) (offset_width (form_of is_large)) k)
-        (λ h. AreListsAt s (form_of is_large) place.node place.buffer k (list_places h.offsets) h.validity h.last) }
+    ensures held { let s = entries R.device body.now in IfOk result
+        (λ h. (validity_held h.validity ≤ listed s place.buffer)
+        × HoldsOffsets s (form_of is_large) (place.buffer + 1) (list_width h.offsets)
+        (list_places h.offsets)) }
+    ensures memory { IsTrue R.device.is_memory → let s = entries R.device body.now in
+        let k = rows s place.node limit in
+        Answers result (Begins s place.node place.buffer k × Offsets s (place.buffer + 1)
+        (offset_width (form_of is_large)) k)
+        (λ h. AreListsAt s (form_of is_large) place.node place.buffer k (list_places h.offsets)
+        h.validity h.last) }
 {
     let head = read_head(alloc, reader, body, place, limit)?;
     let index = place.buffer + 1;

@@ -60,16 +60,21 @@ pub fn read_map_head<R: Reads + Seeks>(
     limit: Option<usize>,
 ) -> Result<MapHead, Fault>
     requires room { HasRoom body.now place 1 2 }
-    requires stands { KeepsBytes R.still R.memory reader.old body.now }
+    requires stands { KeepsBytes R.device reader.old body.now }
     ensures only { IfErr result (λ e. OwnFault e (IsColumnFault e)) }
-    ensures tells { IfErr result (λ e. OwnFault e (TellsEntries R.known (entries R.memory body.now) e)) }
-    ensures step { let s = entries R.memory body.now in
-        Step R.still R.memory R.failures R.given body.now (listed s place.buffer + listed s (place.buffer + 1)) reader.old result reader.new }
+    ensures tells { IfErr result
+        (λ e. OwnFault e (TellsEntries R.device.is_memory (entries R.device body.now) e)) }
+    ensures step { let s = entries R.device body.now in
+        Step R.device body.now
+        (listed s place.buffer + listed s (place.buffer + 1)) reader.old result reader.new }
     ensures made { IfOk result (λ h. AreLists h.offsets h.validity h.last) }
-    ensures held { let s = entries R.memory body.now in IfOk result (λ h. (validity_held h.validity ≤ listed s place.buffer)
+    ensures held { let s = entries R.device body.now in IfOk result
+        (λ h. (validity_held h.validity ≤ listed s place.buffer)
         × HoldsOffsets s offsets_32 (place.buffer + 1) Int32 h.offsets) }
-    ensures memory { IsTrue R.known → let s = entries R.memory body.now in let k = rows s place.node limit in
-        Answers result (Begins s place.node place.buffer k × Offsets s (place.buffer + 1) (offset_width offsets_32) k)
+    ensures memory { IsTrue R.device.is_memory → let s = entries R.device body.now in
+        let k = rows s place.node limit in
+        Answers result (Begins s place.node place.buffer k × Offsets s (place.buffer + 1)
+        (offset_width offsets_32) k)
         (λ h. AreListsAt s offsets_32 place.node place.buffer k h.offsets h.validity h.last) }
 {
     let head = read_head(alloc, reader, body, place, limit)?;

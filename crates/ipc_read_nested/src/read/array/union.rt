@@ -32,13 +32,16 @@ fn fetch_types<R: Reads + Seeks>(
     count: usize,
 ) -> Result<Buffer<i8>, Fault>
     requires inside { index < length body.now.buffers }
-    requires stands { KeepsBytes R.still R.memory reader.old body.now }
+    requires stands { KeepsBytes R.device reader.old body.now }
     ensures only { IfErr result (λ e. OwnFault e (IsBufferFault e)) }
-    ensures tells { IfErr result (λ e. OwnFault e (TellsEntries R.known (entries R.memory body.now) e)) }
-    ensures step { Step R.still R.memory R.failures R.given body.now (listed (entries R.memory body.now) index) reader.old result reader.new }
+    ensures tells { IfErr result
+        (λ e. OwnFault e (TellsEntries R.device.is_memory (entries R.device body.now) e)) }
+    ensures step { Step R.device
+        body.now (listed (entries R.device body.now) index) reader.old result reader.new }
     ensures count { IfOk result (λ types. length types ≡ count) }
-    ensures held { IfOk result (λ types. length types ≤ listed (entries R.memory body.now) index) }
-    ensures memory { IsTrue R.known → let s = entries R.memory body.now in
+    ensures held { IfOk result
+        (λ types. length types ≤ listed (entries R.device body.now) index) }
+    ensures memory { IsTrue R.device.is_memory → let s = entries R.device body.now in
         Answers result (Need s index count) (λ types. types ≡ integers_of s index Int8 count) }
 {
     let types = fetch_numbers::<i8, R>(alloc, reader, body, index, count)?;
@@ -56,14 +59,18 @@ pub fn read_places<R: Reads + Seeks>(
     count: usize,
 ) -> Result<Buffer<i32>, Fault>
     requires inside { index < length body.now.buffers }
-    requires stands { KeepsBytes R.still R.memory reader.old body.now }
+    requires stands { KeepsBytes R.device reader.old body.now }
     ensures only { IfErr result (λ e. OwnFault e (IsBufferFault e)) }
-    ensures tells { IfErr result (λ e. OwnFault e (TellsEntries R.known (entries R.memory body.now) e)) }
-    ensures step { Step R.still R.memory R.failures R.given body.now (listed (entries R.memory body.now) index) reader.old result reader.new }
+    ensures tells { IfErr result
+        (λ e. OwnFault e (TellsEntries R.device.is_memory (entries R.device body.now) e)) }
+    ensures step { Step R.device
+        body.now (listed (entries R.device body.now) index) reader.old result reader.new }
     ensures count { IfOk result (λ places. length places ≡ count) }
-    ensures held { IfOk result (λ places. 4 * length places ≤ listed (entries R.memory body.now) index) }
-    ensures memory { IsTrue R.known → let s = entries R.memory body.now in
-        Answers result (Need s index (4 * count)) (λ places. places ≡ integers_of s index Int32 count) }
+    ensures held { IfOk result
+        (λ places. 4 * length places ≤ listed (entries R.device body.now) index) }
+    ensures memory { IsTrue R.device.is_memory → let s = entries R.device body.now in
+        Answers result (Need s index (4 * count))
+        (λ places. places ≡ integers_of s index Int32 count) }
 {
     let places = fetch_numbers::<i32, R>(alloc, reader, body, index, count)?;
     Ok(Buffer::new(places)?)
@@ -87,15 +94,21 @@ pub fn read_types<R: Reads + Seeks>(
     limit: Option<usize>,
 ) -> Result<Buffer<i8>, Fault>
     requires room { HasRoom body.now place 1 (1 + body.now.extra) }
-    requires stands { KeepsBytes R.still R.memory reader.old body.now }
+    requires stands { KeepsBytes R.device reader.old body.now }
     ensures only { IfErr result (λ e. OwnFault e (IsBufferFault e)) }
-    ensures tells { IfErr result (λ e. OwnFault e (TellsEntries R.known (entries R.memory body.now) e)) }
-    ensures step { Step R.still R.memory R.failures R.given body.now (listed (entries R.memory body.now) (place.buffer + body.now.extra)) reader.old result reader.new }
-    ensures held { IfOk result (λ types. length types ≤ listed (entries R.memory body.now) (place.buffer + body.now.extra)) }
-    ensures memory { IsTrue R.known → let s = entries R.memory body.now in
+    ensures tells { IfErr result
+        (λ e. OwnFault e (TellsEntries R.device.is_memory (entries R.device body.now) e)) }
+    ensures step { Step R.device
+        body.now (listed (entries R.device body.now) (place.buffer + body.now.extra))
+        reader.old result reader.new }
+    ensures held { IfOk result (λ types. length types
+        ≤ listed (entries R.device body.now) (place.buffer + body.now.extra)) }
+    ensures memory { IsTrue R.device.is_memory → let s = entries R.device body.now in
         let k = rows s place.node limit in
-        Answers result (IsSize (node s place.node).length × Need s (place.buffer + body.now.extra) k)
-        (λ types. (types ≡ integers_of s (place.buffer + body.now.extra) Int8 k) × (length types ≡ k)) }
+        Answers result (IsSize (node s place.node).length × Need s (place.buffer + body.now.extra)
+        k)
+        (λ types. (types ≡ integers_of s (place.buffer + body.now.extra) Int8 k) ×
+        (length types ≡ k)) }
 {
     let node = read_node(body, place.node, limit)?;
     fetch_types(alloc, reader, body, place.buffer + body.extra, node.rows)

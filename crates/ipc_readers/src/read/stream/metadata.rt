@@ -30,7 +30,8 @@ pub struct StreamMetadata {
 impl StreamMetadata {
     /// Makes a copy. `AllocError` if an allocation fails.
     pub fn clone(&self) -> Result<StreamMetadata, AllocError>
-        ensures schema { IfOk result (λ copy. schema_view copy.schema ≡ schema_view self.now.schema) }
+        ensures schema { IfOk result (λ copy.
+            schema_view copy.schema ≡ schema_view self.now.schema) }
         ensures version { IfOk result (λ copy. copy.version ≡ self.now.version) }
         ensures ids { IfOk result (λ copy.
             ipc_schema_view copy.ipc_schema ≡ ipc_schema_view self.now.ipc_schema) }

@@ -10,11 +10,12 @@ ghost use Rattle.ipc_model.specs.Batches.{IsProjection};
 ghost use Rattle.ipc_model.specs.Streams.{most_dictionaries};
 ghost use Rattle.ipc_table_views.specs.Unions.{header_parts};
 ghost use Rattle.lower.specs.TypeViews.{fields_view};
-ghost use Rattle.ipc_projection.specs.ChosenColumns.{ShowsColumns, items_of};
+ghost use Rattle.ipc_projection.specs.ChosenColumns.{items_of};
+ghost use Rattle.ipc_readers.specs.Api.{MakesReader};
 ghost use Rattle.ipc_readers.specs.KeptValues.{KeepsValues, KeptOfBatch, KeptOfBody, KeptOfItem, KeepsArrays, values_in, values_of};
 ghost use Rattle.ipc_readers.specs.Messages.{header_seen};
 ghost use Rattle.ipc_readers.specs.Refusals.{IsStreamFault};
-ghost use Rattle.ipc_readers.specs.Streams.{NextStep, IsWaiting, HasChunk, IsUnread, BodyGave, BodyHasValues, Counted, CountsOn, FrontHasValues, GivesHeld, HasKnownValues, IsAdmitted, ItemGave, NextGave, RefusesBody, StateHasValues, request_of, request_in, begun_of, chosen_of, device_of, is_over, known_in, known_of, metadata_of, of_dictionary, of_record, projection_of, schema_of};
+ghost use Rattle.ipc_readers.specs.Streams.{NextStep, IsWaiting, HasChunk, BodyGave, BodyHasValues, Counted, CountsOn, FrontHasValues, GivesHeld, HasKnownValues, IsAdmitted, ItemGave, NextGave, RefusesBody, StateHasValues, request_of, request_in, begun_of, chosen_of, device_of, is_over, known_in, known_of, metadata_of, of_dictionary, of_record, schema_of};
 
 use crate::read::begun::{Begun, Frame};
 use crate::read::frame::read_frame;
@@ -99,8 +100,7 @@ impl Batches {
         ensures described { self.new.metadata ≡ self.old.metadata }
         ensures projected { self.new.projection ≡ self.old.projection }
         ensures counted { OnOk result (self.new.count ≡ self.old.count + 1) }
-        ensures held { KeptOfBatch (request_in self.old)
-            (record { tag = 2; table = batch.entry; body = length body.now })
+        ensures held { KeptOfBatch (request_in self.old) (record { tag = 2; table = batch.entry; body = length body.now })
             (of_dictionary result) (values_in self.old) (values_in self.new) }
         ensures kept { OnErr result (AreAt (known_in self.old) (known_in self.new)) }
         ensures only { IfErr result (λ e. OwnFault e (IsStreamFault (request_in self.old) e)) }
@@ -138,8 +138,7 @@ impl Batches {
         ensures counted { IfOk result (λ c. Counted c self.old.count self.new.count) }
         ensures values { IfOk result (λ c. BodyHasValues self.new c) }
         ensures held { let u = header_parts header.entry in
-            KeptOfBatch (request_in self.old)
-            (record { tag = u.0; table = u.1; body = length body.now })
+            KeptOfBatch (request_in self.old) (record { tag = u.0; table = u.1; body = length body.now })
             result (values_in self.old) (values_in self.new) }
         ensures kept { OnErr result (AreAt (known_in self.old) (known_in self.new)) }
         ensures only { IfErr result (λ e. OwnFault e (IsStreamFault (request_in self.old) e)) }
@@ -192,8 +191,7 @@ impl Batches {
         ensures projected { self.new.projection ≡ self.old.projection }
         ensures counted { IfOk result (λ c. Counted c self.old.count self.new.count) }
         ensures values { IfOk result (λ c. BodyHasValues self.new c) }
-        ensures held { KeptOfBody R.gives (request_in self.old) (header_seen message.entry)
-            reader.old result reader.new
+        ensures held { KeptOfBody R.gives (request_in self.old) (header_seen message.entry) reader.old result reader.new
             (values_in self.old) (values_in self.new) }
         ensures kept { OnErr result (AreAt (known_in self.old) (known_in self.new)) }
         ensures only { IfErr result (λ e. OwnFault e (IsStreamFault (request_in self.old) e)) }
@@ -234,10 +232,10 @@ impl<R: Reads + Drop> StreamReader<R> {
     ) -> Result<StreamReader<R>, Fault>
         requires fits { AllFit (fields_view metadata.schema.fields.items)
             (all_ids_view metadata.ipc_schema.fields.items) }
-        requires columns { IsProjection (items_of projection) (length metadata.schema.fields.items) }
-        ensures ok { IfOk result (λ made. IsUnread reader metadata made) }
-        ensures asked { IfOk result (λ made. projection_of made ≡ items_of projection) }
-        ensures shown { IfOk result (λ made. ShowsColumns (items_of projection) metadata.schema (schema_of made)) }
+        requires columns { IsProjection (items_of projection)
+            (length metadata.schema.fields.items) }
+        ensures made { IfOk result (λ made.
+            MakesReader reader metadata (items_of projection) made) }
         ensures only { IfErr result (λ e. (e ≡ Memory) × IsSome projection) }
     {
         let projection = choose(alloc, &metadata.schema, projection)?;
@@ -300,8 +298,7 @@ impl<R: Reads + Drop> StreamReader<R> {
         ensures projected { chosen_of self.new ≡ chosen_of self.old }
         ensures counted { IfOk result (λ f. CountsOn f (known_of self.old).count (known_of self.new).count) }
         ensures values { IfOk result (λ f. FrontHasValues self.new.batches f) }
-        ensures held { KeptOfItem R.gives (request_of self.old) (begun_of self.old)
-            (device_of self.old) result
+        ensures held { KeptOfItem R.gives (request_of self.old) (begun_of self.old) (device_of self.old) result
             (begun_of self.new) (device_of self.new) (values_of self.old) (values_of self.new) }
         ensures kept { OnErr result (AreAt (known_of self.old) (known_of self.new)) }
         ensures gives { ItemGave R.gives (request_of self.old) (known_of self.old) (begun_of self.old)
@@ -330,8 +327,7 @@ impl<R: Reads + Drop> StreamReader<R> {
         ensures described { metadata_of self.new ≡ metadata_of self.old }
         ensures projected { chosen_of self.new ≡ chosen_of self.old }
         ensures values { IfOk result (λ state. StateHasValues self.new.batches state) }
-        ensures held { KeepsValues R.gives (request_of self.old) (begun_of self.old)
-            (device_of self.old) (device_of self.new)
+        ensures held { KeepsValues R.gives (request_of self.old) (begun_of self.old) (device_of self.old) (device_of self.new)
             (values_of self.old) (values_of self.new) }
         ensures gives { NextGave R.gives (request_of self.old) (known_of self.old) (begun_of self.old)
             (device_of self.old) result (known_of self.new) (begun_of self.new) (device_of self.new) }
@@ -353,7 +349,7 @@ impl<R: Reads + Drop> Iterator for StreamReader<R> {
     // It may return `Waiting` without end.
     ghost remaining = { λ _. endless };
 
-    ghost next_gives = { λ a r b. NextStep R.gives R.known R.memory a r b };
+    ghost next_gives = { λ a r b. NextStep R.gives R.device a r b };
 
     fn next(&mut self) -> Option<Result<StreamState, Fault>> {
         if self.finished {

@@ -11,7 +11,7 @@ use ipc_devices::Reads;
 /// Then the calls return None or `Waiting`, if the stream doesn't end in an error. A call whose
 /// allocation fails returns `Memory`, and later calls None.
 pub fn reading_of_streams<R: Reads + Drop>(reader: &StreamReader<R>)
-    ensures { ReadLaw R.gives R.known R.memory reader.now }
+    ensures { ReadLaw R.gives R.device reader.now }
 {}
 
 /// A call of `next` that returns `Waiting` loses nothing, on any device.
@@ -19,12 +19,12 @@ pub fn reading_of_streams<R: Reads + Drop>(reader: &StreamReader<R>)
 /// The bytes read since then are dictionary messages, whose values are recorded, and a partial
 /// prefix, at which the next call continues.
 pub fn waiting_loses_nothing<R: Reads + Drop>(reader: &StreamReader<R>)
-    ensures { WaitsLaw R.gives R.known R.memory R.given reader.now }
+    ensures { WaitsLaw R.gives R.device reader.now }
 {}
 
 /// On any device, `next` returns `Io` only if a call of the device failed.
 pub fn faults_of_devices<R: Reads + Drop>(reader: &StreamReader<R>)
-    ensures { FailsLaw R.gives R.known R.memory R.failures reader.now }
+    ensures { FailsLaw R.gives R.device reader.now }
 {}
 
 /// Without a projection, `chosen_meaning` of a stream is its `meaning`.

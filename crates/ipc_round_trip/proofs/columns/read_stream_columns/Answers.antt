@@ -12,7 +12,7 @@ use Rattle.ipc_readers.proofs.OfMemory.{no_failure}
 use Rattle.ipc_readers.specs.ChosenStreams.{chosen_meaning}
 use Rattle.ipc_readers.specs.Streams.{head_of}
 use Rattle.ipc_round_trip.proofs.Chosen.{chosen_whole, names_others, none_readable, refused_columns}
-use Rattle.ipc_round_trip.proofs.Streams.{blames_front, blames_message, chosen_ahead, ends_same, head_same, refuses_stream, slice_memory, slice_metadata, slice_metadata_own}
+use Rattle.ipc_round_trip.proofs.Streams.{blames_front, blames_message, chosen_ahead, ends_same, head_same, refuses_stream, slice_memory, slice_metadata, slice_metadata_own, slices}
 use Rattle.ipc_round_trip.specs.declared.read.WholeStream.{WholeStream}
 use Rattle.ipc_round_trip.proofs.columns.read_stream_columns.Goals as goal
 
@@ -21,12 +21,12 @@ returns c =
     let js : List ℕ = c.args.projection.items in
     let m = c.in_ok-metadata.metadata in
     let copied = c.in_ok-copy.ensures in
-    let begins = c.in_ok-reader.ensures.ok in
-    let all = c.in_ok-chunks.ensures.memory refl begins.unfinished in
+    let begins = c.in_ok-reader.ensures.made.unread in
+    let all = c.in_ok-chunks.ensures.exact refl begins.unfinished in
     let heads : head_of c.in_ok-copy.copy ≡ head_of m = head_same c.in_ok-copy.copy m copied.schema copied.version copied.ids in
     let device = c.read_stream_metadata.new.reader in
     let meant : Meant = chosen_meaning (record { head = head_of m; projection = Some js }) nothing_known (after (slice_memory device)) in
-    let ahead = chosen_ahead slice_memory device m m c.in_ok-reader.reader (Some js) begins refl c.in_ok-reader.ensures.asked in
+    let ahead = chosen_ahead slices device m m c.in_ok-reader.reader (Some js) begins refl c.in_ok-reader.ensures.made.asked in
     let front : after (record { whole = c.new-input.result.inner.now; place = c.new-input.result.position }) ≡ c.args.bytes.now =
     ap (λ f. after (record { whole = f.inner.now; place = f.position })) c.new-input.ensures in
     record {
@@ -55,17 +55,17 @@ returns-in_err-chunks c =
     let js : List ℕ = c.args.projection.items in
     let fault = c.in_err-chunks.field-0.0 in
     let m = c.in_ok-metadata.metadata in
-    let begins = c.in_ok-reader.ensures.ok in
+    let begins = c.in_ok-reader.ensures.made.unread in
     let front : after (record { whole = c.new-input.result.inner.now; place = c.new-input.result.position }) ≡ c.args.bytes.now =
     ap (λ f. after (record { whole = f.inner.now; place = f.position })) c.new-input.ensures in
     let schema = slice_metadata (Ok m) c.new-input.result c.read_stream_metadata.new.reader c.in_ok-metadata.ensures.gives in
     let p = err_from_is_err_and c.from_residual-in_err-chunks.result c.from_residual-in_err-chunks.ensures.1 in
-    rw (p.1, p.2) (refuses_stream fault _ (no_failure (Vec (List AnyArray) Global) WholeStream fault c.in_err-chunks.ensures.failed)
+    rw (p.1, p.2) (refuses_stream fault _ (no_failure (Vec (List AnyArray) Global) WholeStream fault c.in_err-chunks.ensures.device.failed)
     (both_claimed fault _ _
-    (refused_columns slice_memory c.read_stream_metadata.new.reader (Some js) c.args.bytes.now _ m c.in_ok-reader.reader fault front schema
-    begins c.in_ok-reader.ensures.asked (c.in_err-chunks.ensures.refused refl begins.unfinished))
-    (blames_message c.read_stream_metadata.new.reader c.args.bytes.now _ _ m m c.in_ok-reader.reader (Some js) fault begins refl c.in_ok-reader.ensures.asked
-    (chosen_whole (Some js) c.args.bytes.now _ _ m front schema) c.in_err-chunks.ensures.only)))
+    (refused_columns slices c.read_stream_metadata.new.reader (Some js) c.args.bytes.now _ m c.in_ok-reader.reader fault front schema
+    begins c.in_ok-reader.ensures.made.asked (c.in_err-chunks.ensures.causes.refused refl begins.unfinished))
+    (blames_message c.read_stream_metadata.new.reader c.args.bytes.now _ _ m m c.in_ok-reader.reader (Some js) fault begins refl c.in_ok-reader.ensures.made.asked
+    (chosen_whole (Some js) c.args.bytes.now _ _ m front schema) c.in_err-chunks.ensures.causes.only)))
 
 pub returns-then-not-is_projection : goal.returns-then-not-is_projection
 returns-then-not-is_projection c =

@@ -8,10 +8,10 @@ abbrev pub invariant-loop-chunks : goal.invariant-loop-chunks
 invariant-loop-chunks g l = record {
   described : metadata_of l.reader ≡ metadata_of l.fn.reader;
   asked : request_of l.reader ≡ request_of l.fn.reader;
-  monotone : g.R.Failures.failures (device_of l.fn.reader) ≤ g.R.Failures.failures (device_of l.reader);
-  same : IsTrue g.R.Failures.known → is_over l.fn.reader ≡ false
+  monotone : g.R.Failures.device.failures (device_of l.fn.reader) ≤ g.R.Failures.device.failures (device_of l.reader);
+  same : IsTrue g.R.Failures.device.is_memory → is_over l.fn.reader ≡ false
       → (is_over l.reader ≡ false)
-      × ((m : Meant) → MeansAhead g.R.Failures.memory l.fn.reader m → (n : Meant) × MeansAhead g.R.Failures.memory l.reader n × (with_chunks (chunks_seen l.chunks.items) n ≡ m));
+      × ((m : Meant) → MeansAhead g.R.Failures.device l.fn.reader m → (n : Meant) × MeansAhead g.R.Failures.device l.reader n × (with_chunks (chunks_seen l.chunks.items) n ≡ m));
 }
 
 abbrev pub decreases-loop-chunks : goal.decreases-loop-chunks

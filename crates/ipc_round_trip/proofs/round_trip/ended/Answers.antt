@@ -14,9 +14,9 @@ returns-in-Finished c = record {
 pub returns-in_ok-finish-in_default : goal.returns-in_ok-finish-in_default
 returns-in_ok-finish-in_default c = record {
   ok =
-      ends_stream (seen c.args.writer) (seen c.finish.new.self) c.into_inner-in_default.result c.in_ok-finish-in_default.ensures.means c.in_ok-finish-in_default.ensures.ok.1
+      ends_stream (seen c.args.writer) (seen c.finish.new.self) c.into_inner-in_default.result c.in_ok-finish-in_default.ensures.content c.in_ok-finish-in_default.ensures.state.ok.1
       c.into_inner-in_default.ensures;
-  state = inl c.in_ok-finish-in_default.ensures.ok.0;
+  state = inl c.in_ok-finish-in_default.ensures.state.ok.0;
   only = tt;
 }
 
@@ -28,5 +28,5 @@ returns-in_err-finish-in_default c =
     rw (p.1, p.2) (record {
       ok = tt;
       state = tt;
-      only = refuses_end (seen c.args.writer) (seen c.finish.new.self) (λ is. c.in_default.not-Finished (c.state.ensures ∙ is)) fault e.first e.step e.only;
+      only = refuses_end (seen c.args.writer) (seen c.finish.new.self) (λ is. c.in_default.not-Finished (c.state.ensures ∙ is)) fault e.state.first e.device e.causes;
     })

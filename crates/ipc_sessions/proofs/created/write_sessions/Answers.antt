@@ -9,58 +9,60 @@ use Rattle.ipc_sessions.specs.Sessions.{taken_of}
 use Rattle.ipc_sessions.proofs.EndedFiles.{written_file}
 use Rattle.ipc_sessions.proofs.created.write_sessions.Goals as goal
 
-pub returns-clause-made : goal.returns-clause-made
-returns-clause-made c = record {
-  creation = c.in_ok-created.ensures.made;
-  created = c.new.result;
-  file = rw c.new.ensures c.in_ok-created.ensures.file;
-  left = c.in_ok-left.left.device;
-  sessions = c.in_ok-left.ensures.made;
-  bytes_are = rw c.into_inner.ensures refl;
-}
-
-pub returns-clause-reads : goal.returns-clause-reads
-returns-clause-reads c =
+pub returns : goal.returns
+returns c =
     let fields = fields_view c.args.schema.fields.items in
     let order = byte_order (not c.args.options.big_endian) in
     let metadata = pairs_of c.args.schema.metadata.entries in
     let ids = chosen_ids c.args.ipc_fields fields in
     let pairs = pairs_of c.args.custom_metadata.entries in
-    let turn = c.in_ok-left.ensures.adds refl in
-    written_file _ order fields metadata ids pairs _
-    (rw c.into_inner.ensures (turn.ended true (written_as order fields metadata ids) pairs (taken_of c.args.first.now c.in_ok-created.created.answers.items) (rw c.new.ensures c.in_ok-created.ensures.file)))
+    let turn = c.in_ok-left.ensures.exact refl in
+    record {
+      exact =
+          written_file _ order fields metadata ids pairs _
+          (rw c.into_inner.ensures (turn.ended true (written_as order fields metadata ids) pairs (taken_of c.args.first.now c.in_ok-created.created.answers.items) (rw c.new.ensures c.in_ok-created.ensures.exact)));
+      causes = tt;
+      device = tt;
+      calls = record {
+        creation = c.in_ok-created.ensures.calls;
+        created = c.new.result;
+        file = rw c.new.ensures c.in_ok-created.ensures.exact;
+        left = c.in_ok-left.left.device;
+        sessions = c.in_ok-left.ensures.calls;
+        bytes_are = rw c.into_inner.ensures refl;
+      };
+    }
 
-pub returns-in_err-created-clause-only : goal.returns-in_err-created-clause-only
-returns-in_err-created-clause-only c =
+pub returns-in_err-created : goal.returns-in_err-created
+returns-in_err-created c =
     let p = err_from_is_err_and c.from_residual.result c.from_residual.ensures.1 in
-    rw (p.1, p.2) (claimed c.in_err-created.field-0.0 _ (inl c.in_err-created.ensures.only))
+    rw (p.1, p.2) (record {
+      exact = tt;
+      causes = claimed c.in_err-created.field-0.0 _ (inl c.in_err-created.ensures.causes);
+      device = λ io. inl c.in_err-created.ensures.causes;
+      calls = tt;
+    })
 
-pub returns-in_err-left-clause-only : goal.returns-in_err-left-clause-only
-returns-in_err-left-clause-only c =
+pub returns-in_err-left : goal.returns-in_err-left
+returns-in_err-left c =
     let p = err_from_is_err_and c.from_residual-in_err-left.result c.from_residual-in_err-left.ensures.1 in
-    rw (p.1, p.2)
-    (claims_through c.in_err-left.field-0.0 _ _
-    (λ why. inr (record {
-      answers = c.in_ok-created.created.answers.items;
-      creation = c.in_ok-created.ensures.made;
-      created = c.new.result;
-      file = rw c.new.ensures c.in_ok-created.ensures.file;
-      refused = why;
-    })) c.in_err-left.ensures.only)
-
-pub returns-in_err-created-clause-failed : goal.returns-in_err-created-clause-failed
-returns-in_err-created-clause-failed c =
-    let p = err_from_is_err_and c.from_residual.result c.from_residual.ensures.1 in
-    rw (p.1, p.2) (λ io. inl c.in_err-created.ensures.only)
-
-pub returns-in_err-left-clause-failed : goal.returns-in_err-left-clause-failed
-returns-in_err-left-clause-failed c =
-    let p = err_from_is_err_and c.from_residual-in_err-left.result c.from_residual-in_err-left.ensures.1 in
-    rw (p.1, p.2)
-    (λ io. inr (record {
-      answers = c.in_ok-created.created.answers.items;
-      creation = c.in_ok-created.ensures.made;
-      created = c.new.result;
-      file = rw c.new.ensures c.in_ok-created.ensures.file;
-      refused = c.in_err-left.ensures.failed io;
-    }))
+    rw (p.1, p.2) (record {
+      exact = tt;
+      causes =
+          claims_through c.in_err-left.field-0.0 _ _
+          (λ why. inr (record {
+            answers = c.in_ok-created.created.answers.items;
+            creation = c.in_ok-created.ensures.calls;
+            created = c.new.result;
+            file = rw c.new.ensures c.in_ok-created.ensures.exact;
+            refused = why;
+          })) c.in_err-left.ensures.causes;
+      device = λ io. inr (record {
+        answers = c.in_ok-created.created.answers.items;
+        creation = c.in_ok-created.ensures.calls;
+        created = c.new.result;
+        file = rw c.new.ensures c.in_ok-created.ensures.exact;
+        refused = c.in_err-left.ensures.device io;
+      });
+      calls = tt;
+    })

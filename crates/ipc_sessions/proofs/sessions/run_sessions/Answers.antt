@@ -13,8 +13,6 @@ loop-chunks-init g c = rw c.new-answers.ensures.items (refl, refl, λ k. in_turn
 
 pub loop-chunks-preserved : goal.loop-chunks-preserved
 loop-chunks-preserved g c =
-    let known = g.W.Failures.known in
-    let memory = g.W.Failures.memory in
     let sessions = c.args.sessions.now in
     let i = c.loop-chunks.chunks-index in
     let chunks = c.chunks-item.result in
@@ -25,56 +23,52 @@ loop-chunks-preserved g c =
     let one = c.in_ok-ended.ended.1 in
     let left = c.in_ok-ended.ended.0 in
     rw (next, c.in_ok-push.ensures.items) (
-      sessions_more known g.W.Writes.grows g.W.Failures.failures g.W.Writes.room memory _ _ _ (take i sessions) answers chunks one inv.0 (rw c.deref.ensures.value at c.in_ok-ended.ensures.made),
+      sessions_more g.W.Failures.device _ _ _ (take i sessions) answers chunks one inv.0 (rw c.deref.ensures.value at c.in_ok-ended.ensures.made),
       omega (arith, inv.1, length-append (take i sessions) (chunks ∷ []), length-append answers (one ∷ [])),
       λ k.
-          subst (λ (xs : List Chunk). AddsInTurn (length (take i sessions ++ chunks ∷ [])) (memory c.args.device).whole (memory left).whole xs) (sym (all_taken_more (take i sessions) chunks answers one inv.1))
+          subst (λ (xs : List Chunk). AddsInTurn (length (take i sessions ++ chunks ∷ [])) (g.W.Failures.device.memory c.args.device).whole (g.W.Failures.device.memory left).whole xs) (sym (all_taken_more (take i sessions) chunks answers one inv.1))
           (in_turn_more (length (take i sessions)) (length (take i sessions ++ chunks ∷ [])) (omega (arith, length-append (take i sessions) (chunks ∷ []))) _ _ _ _ _ (inv.2 k) (rw c.deref.ensures.value at (c.in_ok-ended.ensures.adds k))),
     )
 
-pub returns-clause-made : goal.returns-clause-made
-returns-clause-made g c = rw (take_all c.loop-chunks.chunks-index c.args.sessions.now c.loop-chunks-test.false) at c.loop-chunks.invariant.0
+pub returns : goal.returns
+returns g c = record {
+  exact = rw (take_all c.loop-chunks.chunks-index c.args.sessions.now c.loop-chunks-test.false) at c.loop-chunks.invariant.2;
+  causes = tt;
+  device = tt;
+  calls = rw (take_all c.loop-chunks.chunks-index c.args.sessions.now c.loop-chunks-test.false) at c.loop-chunks.invariant.0;
+}
 
-pub returns-clause-adds : goal.returns-clause-adds
-returns-clause-adds g c = rw (take_all c.loop-chunks.chunks-index c.args.sessions.now c.loop-chunks-test.false) at c.loop-chunks.invariant.2
-
-pub returns-in_err-ended-clause-only : goal.returns-in_err-ended-clause-only
-returns-in_err-ended-clause-only g c =
+pub returns-in_err-ended : goal.returns-in_err-ended
+returns-in_err-ended g c =
     let sessions = c.args.sessions.now in
     let i = c.loop-chunks.chunks-index in
     let chunks = c.chunks-item.result in
     let next : take (i + 1) sessions ≡ take i sessions ++ chunks ∷ [] =
     take_more sessions i chunks c.loop-chunks-test.true ∙ sym (ap (λ x. take i sessions ++ x ∷ []) c.chunks-item.is) in
     let p = err_from_is_err_and c.from_residual.result c.from_residual.ensures.1 in
-    rw (p.1, p.2)
-    (claims_through c.in_err-ended.field-0.0 _ _
-    (λ why. record {
-      done = take i sessions;
-      refused = chunks;
-      rest = drop (i + 1) sessions;
-      sessions_are = at_index sessions i chunks next;
-      answers = c.loop-chunks.answers.items;
-      left = c.loop-chunks.device;
-      made = c.loop-chunks.invariant.0;
-      why = why;
-    }) (rw c.deref.ensures.value at c.in_err-ended.ensures.only))
-
-pub returns-in_err-ended-clause-failed : goal.returns-in_err-ended-clause-failed
-returns-in_err-ended-clause-failed g c =
-    let sessions = c.args.sessions.now in
-    let i = c.loop-chunks.chunks-index in
-    let chunks = c.chunks-item.result in
-    let next : take (i + 1) sessions ≡ take i sessions ++ chunks ∷ [] =
-    take_more sessions i chunks c.loop-chunks-test.true ∙ sym (ap (λ x. take i sessions ++ x ∷ []) c.chunks-item.is) in
-    let p = err_from_is_err_and c.from_residual.result c.from_residual.ensures.1 in
-    rw (p.1, p.2)
-    (λ io. record {
-      done = take i sessions;
-      refused = chunks;
-      rest = drop (i + 1) sessions;
-      sessions_are = at_index sessions i chunks next;
-      answers = c.loop-chunks.answers.items;
-      left = c.loop-chunks.device;
-      made = c.loop-chunks.invariant.0;
-      why = (rw c.deref.ensures.value at c.in_err-ended.ensures.failed) io;
+    rw (p.1, p.2) (record {
+      exact = λ k. tt;
+      causes =
+          claims_through c.in_err-ended.field-0.0 _ _
+          (λ why. record {
+            done = take i sessions;
+            refused = chunks;
+            rest = drop (i + 1) sessions;
+            sessions_are = at_index sessions i chunks next;
+            answers = c.loop-chunks.answers.items;
+            left = c.loop-chunks.device;
+            made = c.loop-chunks.invariant.0;
+            why = why;
+          }) (rw c.deref.ensures.value at c.in_err-ended.ensures.only);
+      device = λ io. record {
+        done = take i sessions;
+        refused = chunks;
+        rest = drop (i + 1) sessions;
+        sessions_are = at_index sessions i chunks next;
+        answers = c.loop-chunks.answers.items;
+        left = c.loop-chunks.device;
+        made = c.loop-chunks.invariant.0;
+        why = (rw c.deref.ensures.value at c.in_err-ended.ensures.failed) io;
+      };
+      calls = tt;
     })

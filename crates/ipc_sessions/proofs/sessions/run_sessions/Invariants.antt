@@ -6,7 +6,7 @@ use Rattle.ipc_sessions.proofs.sessions.run_sessions.Given as goal
 -- The sessions so far were made, and ended their files.
 abbrev pub invariant-loop-chunks : goal.invariant-loop-chunks
 invariant-loop-chunks g l =
-    AreSessions g.W.Failures.known g.W.Writes.grows g.W.Failures.failures g.W.Writes.room g.W.Failures.memory l.fn.device (take l.chunks-index l.sessions) l.answers.items l.device
+    AreSessions g.W.Failures.device l.fn.device (take l.chunks-index l.sessions) l.answers.items l.device
     × (length (take l.chunks-index l.sessions) ≡ length l.answers.items)
-    × (IsTrue g.W.Failures.known
-    → AddsInTurn (length (take l.chunks-index l.sessions)) (g.W.Failures.memory l.fn.device).whole (g.W.Failures.memory l.device).whole (all_taken_of (take l.chunks-index l.sessions) l.answers.items))
+    × (IsTrue g.W.Failures.device.is_memory
+    → AddsInTurn (length (take l.chunks-index l.sessions)) (g.W.Failures.device.memory l.fn.device).whole (g.W.Failures.device.memory l.device).whole (all_taken_of (take l.chunks-index l.sessions) l.answers.items))

@@ -4,5 +4,5 @@ use Rattle.ipc_sessions.proofs.sessions.write_chunk.Goals as goal
 
 pub returns : goal.returns
 returns g c =
-    writes_chunk g.W.Failures.known g.W.Writes.grows g.W.Failures.failures g.W.Writes.room g.W.Failures.memory (seen c.args.writer.now) (seen c.write.new.self) c.args.chunk.now c.write.result c.write.ensures.step
-    c.write.ensures.exact c.write.ensures.named c.write.ensures.means
+    writes_chunk g.W.Failures.device (seen c.args.writer.now) (seen c.write.new.self) c.args.chunk.now c.write.result c.write.ensures.writes.device
+    c.write.ensures.writes.exact c.write.ensures.writes.causes c.write.ensures.writes.content

@@ -19,9 +19,9 @@ loop-call-preserved g c =
     let inv = c.loop-call.invariant in
     let handed = subst (λ (all : Option (Vec IpcField Global)). HandsIds call all c.in_ok-ids.ids) inv.0 c.in_ok-ids.ensures in
     let made =
-    made_with g.W.Failures.known g.W.Writes.grows g.W.Failures.failures g.W.Writes.room g.W.Failures.memory (fields_view c.args.schema.now.fields.items) (pairs_of c.args.schema.now.metadata.entries) c.args.ipc_fields
+    made_with g.W.Failures.device (fields_view c.args.schema.now.fields.items) (pairs_of c.args.schema.now.metadata.entries) c.args.ipc_fields
     c.in_ok-ids.ids _ _ call c.run_call.result handed c.run_call.ensures in
-    rw (next, c.in_ok-push.ensures.items) (inv.0, made_more _ _ _ _ _ _ _ _ _ _ _ (take i calls) c.loop-call.answers.items call c.run_call.result inv.1 made)
+    rw (next, c.in_ok-push.ensures.items) (inv.0, made_more _ _ _ _ _ _ _ (take i calls) c.loop-call.answers.items call c.run_call.result inv.1 made)
 
 pub returns-in_err-push-clause-refused : goal.returns-in_err-push-clause-refused
 returns-in_err-push-clause-refused g c =
@@ -33,25 +33,25 @@ returns-in_err-push-clause-refused g c =
     let inv = c.loop-call.invariant in
     let handed = subst (λ (all : Option (Vec IpcField Global)). HandsIds call all c.in_ok-ids.ids) inv.0 c.in_ok-ids.ensures in
     let made =
-    made_with g.W.Failures.known g.W.Writes.grows g.W.Failures.failures g.W.Writes.room g.W.Failures.memory (fields_view c.args.schema.now.fields.items) (pairs_of c.args.schema.now.metadata.entries) c.args.ipc_fields
+    made_with g.W.Failures.device (fields_view c.args.schema.now.fields.items) (pairs_of c.args.schema.now.metadata.entries) c.args.ipc_fields
     c.in_ok-ids.ids _ _ call c.run_call.result handed c.run_call.ensures in
     on_err c.from_residual-in_err-push.result _ (record {
       count = i + 1;
       answers = c.loop-call.answers.items ++ c.run_call.result ∷ [];
-      made = rw next (made_more _ _ _ _ _ _ _ _ _ _ _ (take i calls) c.loop-call.answers.items call c.run_call.result inv.1 made);
+      made = rw next (made_more _ _ _ _ _ _ _ (take i calls) c.loop-call.answers.items call c.run_call.result inv.1 made);
     })
 
-pub returns-clause-run : goal.returns-clause-run
-returns-clause-run g c =
+pub returns-clause-ran : goal.returns-clause-ran
+returns-clause-ran g c =
+    let fields = fields_view c.args.schema.now.fields.items in
     let whole : take c.loop-call.call-index c.args.calls.now ≡ c.args.calls.now = take_all _ _ c.loop-call-test.false in
-    made_run g.W.Failures.known g.W.Writes.grows g.W.Failures.failures g.W.Writes.room g.W.Failures.memory (fields_view c.args.schema.now.fields.items) (pairs_of c.args.schema.now.metadata.entries)
-    (chosen_ids c.args.ipc_fields (fields_view c.args.schema.now.fields.items)) (seen c.args.writer.now) (seen c.loop-call.writer) c.args.calls.now c.loop-call.answers.items (rw whole at c.loop-call.invariant.1)
-
-pub returns-clause-follows : goal.returns-clause-follows
-returns-clause-follows g c =
-    let whole : take c.loop-call.call-index c.args.calls.now ≡ c.args.calls.now = take_all _ _ c.loop-call-test.false in
-    made_follow g.W.Failures.known g.W.Writes.grows g.W.Failures.failures g.W.Writes.room g.W.Failures.memory (fields_view c.args.schema.now.fields.items) (pairs_of c.args.schema.now.metadata.entries)
-    (chosen_ids c.args.ipc_fields (fields_view c.args.schema.now.fields.items)) (seen c.args.writer.now) (seen c.loop-call.writer) c.args.calls.now c.loop-call.answers.items (rw whole at c.loop-call.invariant.1)
+    record {
+      made = rw whole at c.loop-call.invariant.1;
+      state = made_run g.W.Failures.device fields (pairs_of c.args.schema.now.metadata.entries)
+          (chosen_ids c.args.ipc_fields fields) (seen c.args.writer.now) (seen c.loop-call.writer) c.args.calls.now c.loop-call.answers.items (rw whole at c.loop-call.invariant.1);
+      content = made_follow g.W.Failures.device fields (pairs_of c.args.schema.now.metadata.entries)
+          (chosen_ids c.args.ipc_fields fields) (seen c.args.writer.now) (seen c.loop-call.writer) c.args.calls.now c.loop-call.answers.items (rw whole at c.loop-call.invariant.1);
+    }
 
 pub returns-in_err-ids-clause-refused : goal.returns-in_err-ids-clause-refused
 returns-in_err-ids-clause-refused g c = on_err c.from_residual.result _ (record { count = c.loop-call.call-index; answers = c.loop-call.answers.items; made = c.loop-call.invariant.1 })

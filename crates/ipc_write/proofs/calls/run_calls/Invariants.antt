@@ -8,5 +8,5 @@ use Rattle.ipc_write.proofs.calls.run_calls.Given as goal
 abbrev pub invariant-loop-call : goal.invariant-loop-call
 invariant-loop-call g l =
     (l.ipc_fields ≡ l.fn.ipc_fields) ×
-    AreMade g.W.Failures.known g.W.Writes.grows g.W.Failures.failures g.W.Writes.room g.W.Failures.memory (fields_view l.schema.fields.items) (pairs_of l.schema.metadata.entries)
+    AreMade g.W.Failures.device (fields_view l.schema.fields.items) (pairs_of l.schema.metadata.entries)
     (chosen_ids l.fn.ipc_fields (fields_view l.schema.fields.items)) (seen l.fn.writer) (take l.call-index l.calls) l.answers.items (seen l.writer)

@@ -10,7 +10,7 @@ returns-in_err-head_len-clause-sends g c =
     let fault = c.in_err-head_len.field-0.0 in
     let e : c.from_residual.result ≡ Err fault = search rules in
     rw e
-    (head_unsent ℕ (ℕ × ℕ) g.W.Failures.known g.W.Writes.grows g.W.Failures.failures g.W.Writes.room g.W.Failures.memory c.args.writer.now fault c.write_metadata.new.writer m.metadata m.body
+    (head_unsent ℕ (ℕ × ℕ) g.W.Failures.device c.args.writer.now fault c.write_metadata.new.writer m.metadata m.body
     c.requires.short c.requires.whole (rw c.deref.ensures.value at c.in_err-head_len.ensures.sends))
 
 pub returns-in_err-send_pieces-clause-sends : goal.returns-in_err-send_pieces-clause-sends
@@ -19,13 +19,13 @@ returns-in_err-send_pieces-clause-sends g c =
     let fault = c.in_err-send_pieces.field-0.0 in
     let e : c.from_residual-in_err-send_pieces.result ≡ Err fault = search rules in
     rw e
-    (failed_as {X = Unit {0}} {Y = ℕ × ℕ} _ _ _ _ _ _
-    (body_after ℕ (Unit {0}) g.W.Failures.known g.W.Writes.grows g.W.Failures.failures g.W.Writes.room g.W.Failures.memory c.args.writer.now c.write_metadata.new.writer c.send_pieces.new.writer _ (Err fault) m.metadata m.body
+    (failed_as {X = Unit {0}} {Y = ℕ × ℕ} _ _ _ _ _
+    (body_after ℕ (Unit {0}) g.W.Failures.device c.args.writer.now c.write_metadata.new.writer c.send_pieces.new.writer _ (Err fault) m.metadata m.body
     c.requires.short c.requires.whole (rw c.deref.ensures.value at c.in_ok-head_len.ensures.sends) (rw c.deref-2.ensures.value at c.in_err-send_pieces.ensures)))
 
 pub returns-clause-sends : goal.returns-clause-sends
 returns-clause-sends g c =
     let m = message_seen c.args.encoded.now in
-    sent_as {X = Unit {0}} {Y = ℕ × ℕ} _ _ _ _ tt _ _
-    (body_after ℕ (Unit {0}) g.W.Failures.known g.W.Writes.grows g.W.Failures.failures g.W.Writes.room g.W.Failures.memory c.args.writer.now c.write_metadata.new.writer c.send_pieces.new.writer _ _ m.metadata m.body
+    sent_as {X = Unit {0}} {Y = ℕ × ℕ} _ _ _ tt _ _
+    (body_after ℕ (Unit {0}) g.W.Failures.device c.args.writer.now c.write_metadata.new.writer c.send_pieces.new.writer _ _ m.metadata m.body
     c.requires.short c.requires.whole (rw c.deref.ensures.value at c.in_ok-head_len.ensures.sends) (rw c.deref-2.ensures.value at c.in_ok-send_pieces.ensures))

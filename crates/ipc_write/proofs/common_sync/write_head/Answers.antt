@@ -1,6 +1,6 @@
 use Rattle.std.proofs.Common.{rules, ◌≡◌, ◌≤◌, ◌^◌, Err, Ok, ℕ, List, length, subst}
 use Rattle.std.specs.Int.{next_multiple_of}
-use Rattle.ipc_plan.specs.Sending.{Sends, seen_by}
+use Rattle.ipc_plan.specs.Sending.{Sends}
 use Rattle.ipc_write.specs.Framing.{head_bytes}
 use Rattle.ipc_write.specs.Sending.{SendsOrRefuses}
 use Rattle.ipc_write.proofs.MessageSends.{head_is_message}
@@ -14,9 +14,9 @@ returns-in_err-write_metadata g c =
     let e : c.from_residual.result ≡ Err fault = search rules in
     record {
       sends = rw e
-          (subst (λ (xs : List ℕ). SendsOrRefuses {X = Unit {0}} g.W.Failures.known g.W.Writes.grows g.W.Failures.failures g.W.Writes.room g.W.Failures.memory c.args.writer.now (Err fault) c.write_metadata.new.writer xs
+          (subst (λ (xs : List ℕ). SendsOrRefuses {X = Unit {0}} g.W.Failures.device c.args.writer.now (Err fault) c.write_metadata.new.writer xs
           (2 ^ 31 ≤ next_multiple_of (length bytes) 8)) (head_is_message bytes)
-          (or_fail ℕ (Unit {0}) g.W.Failures.known g.W.Writes.grows g.W.Failures.failures g.W.Writes.room g.W.Failures.memory c.args.writer.now fault c.write_metadata.new.writer (head_bytes bytes) _
+          (or_fail ℕ (Unit {0}) g.W.Failures.device c.args.writer.now fault c.write_metadata.new.writer (head_bytes bytes) _
           c.in_err-write_metadata.ensures.sends));
     }
 
@@ -25,7 +25,6 @@ returns g c =
     let bytes = c.args.metadata.now in
     record {
       sends =
-          subst (λ (xs : List ℕ). Sends {X = Unit {0}} g.W.Failures.known g.W.Writes.grows (seen_by g.W.Failures.failures g.W.Writes.room g.W.Failures.memory c.args.writer.now)
-          (seen_by g.W.Failures.failures g.W.Writes.room g.W.Failures.memory c.write_metadata.new.writer) (Ok tt) xs) (head_is_message bytes)
-          (sent_as {X = ℕ} {Y = Unit {0}} _ _ _ _ _ tt (head_bytes bytes) c.in_ok-write_metadata.ensures.sends);
+          subst (λ (xs : List ℕ). Sends {X = Unit {0}} g.W.Failures.device xs c.args.writer.now (Ok tt) c.write_metadata.new.writer) (head_is_message bytes)
+          (sent_as {X = ℕ} {Y = Unit {0}} _ _ _ _ tt (head_bytes bytes) c.in_ok-write_metadata.ensures.sends);
     }

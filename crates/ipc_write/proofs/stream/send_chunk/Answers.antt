@@ -14,7 +14,7 @@ returns-in_err-messages-clause-sends g c =
     let fault = c.in_err-messages.field-0.0 in
     let e : c.from_residual.result ≡ Err fault = search rules in
     rw e
-    (hands_refused g.W.Failures.known g.W.Writes.grows g.W.Failures.failures g.W.Writes.room g.W.Failures.memory c.args.order columns list c.args.writer.now fault
+    (hands_refused g.W.Failures.device c.args.order columns list c.args.writer.now fault
     (of_messages list columns fault c.in_err-messages.ensures.takes))
 
 pub returns-in_err-messages-clause-takes : goal.returns-in_err-messages-clause-takes
@@ -42,7 +42,7 @@ returns-clause-sends g c =
     subst (λ (o : Endianness). AreMessages o columns list (dictionaries_seen messages) (message_seen messages.record_batch)) (same_order c.is_little_endian.result ∙ c.is_little_endian.ensures)
     c.in_ok-messages.ensures.encodes in
     rw c.note_failure.ensures.same
-    (hands_sent g.W.Failures.known g.W.Writes.grows g.W.Failures.failures g.W.Writes.room g.W.Failures.memory c.args.order columns list (dictionaries_seen messages) (message_seen messages.record_batch) c.args.writer.now
+    (hands_sent g.W.Failures.device c.args.order columns list (dictionaries_seen messages) (message_seen messages.record_batch) c.args.writer.now
     c.write_messages-sent.new.writer c.write_messages-sent.result are c.write_messages-sent.ensures)
 
 pub returns-clause-takes : goal.returns-clause-takes

@@ -11,8 +11,8 @@ use Rattle.ipc_programs.proofs.cat.file.open_file.Goals as goal
 pub returns-in_err-metadata-clause-refused : goal.returns-in_err-metadata-clause-refused
 returns-in_err-metadata-clause-refused g c =
     let p = err_from_is_err_and c.from_residual.result c.from_residual.ensures.1 in
-    rw (p.1, p.2) (footer_not_shown g.F.Failures.known g.F.Failures.memory c.args.file (columns_by c.args.words.columns) c.args.words.limit c.in_err-metadata.field-0.0
-    c.in_err-metadata.ensures.memory c.in_err-metadata.ensures.reason)
+    rw (p.1, p.2) (footer_not_shown g.F.Failures.device c.args.file (columns_by c.args.words.columns) c.args.words.limit c.in_err-metadata.field-0.0
+    c.in_err-metadata.ensures.from_start c.in_err-metadata.ensures.causes.reason)
 
 pub returns-in_default-clause-wrong : goal.returns-in_default-clause-wrong
 returns-in_default-clause-wrong g c = λ none.
@@ -20,7 +20,7 @@ returns-in_default-clause-wrong g c = λ none.
     let asked = columns_by c.args.words.columns in
     let many : c.len-count.result ≡ length m.schema.fields.items = search rules in
     let others = subst (λ (x : Chosen). IsChoice asked c.len-count.result x) c.in_default.is c.in_ok-projection.ensures in
-    file_has_others g.F.Failures.known g.F.Failures.memory c.args.file asked m c.in_ok-metadata.ensures.memory (subst (λ (n : ℕ). ¬ IsProjection asked n) many others)
+    file_has_others g.F.Failures.device c.args.file asked m c.in_ok-metadata.ensures.from_start (subst (λ (n : ℕ). ¬ IsProjection asked n) many others)
 
 pub returns-clause-opens : goal.returns-clause-opens
 returns-clause-opens g c =
@@ -33,6 +33,6 @@ returns-clause-opens g c =
       device = c.read_file_metadata.new.reader;
       unread = subst (λ (p : Option (List ℕ)). IsUnread c.read_file_metadata.new.reader m p c.args.words.limit c.in_ok-reader.reader) chosen.0 c.in_ok-reader.ensures.ok;
       columns = subst (λ (n : ℕ). IsProjection asked n) many chosen.1;
-      footer = c.in_ok-metadata.ensures.memory;
-      same = λ there. c.in_ok-metadata.ensures.whole (g.met.F.Seeks.known_still there);
+      footer = c.in_ok-metadata.ensures.from_start;
+      same = λ there. c.in_ok-metadata.ensures.device.whole (g.met.F.Seeks.known_still there);
     }

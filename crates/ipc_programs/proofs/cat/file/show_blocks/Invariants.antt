@@ -5,8 +5,8 @@ use Rattle.ipc_programs.proofs.cat.file.show_blocks.Given as goal
 
 abbrev pub invariant-loop : goal.invariant-loop
 invariant-loop g l = record {
-  given : HasGiven g.F.Failures.known g.F.Failures.still g.F.Failures.memory g.F.Failures.failures g.F.Failures.given l.fn.reader l.reader;
-  prints : Prints g.W.Failures.known g.W.Failures.failures g.W.Failures.memory l.fn.printer l.printer;
+  given : HasGiven g.F.Failures.device l.fn.reader l.reader;
+  prints : Prints g.W.Failures.device l.fn.printer l.printer;
 }
 
 abbrev pub decreases-loop : goal.decreases-loop

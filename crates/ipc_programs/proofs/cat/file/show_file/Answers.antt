@@ -7,12 +7,12 @@ use Rattle.ipc_programs.proofs.cat.file.show_file.Goals as goal
 pub returns-in_err-show_blocks-clause-refused : goal.returns-in_err-show_blocks-clause-refused
 returns-in_err-show_blocks-clause-refused g c =
     let p = err_from_is_err_and c.from_residual-in_err-show_blocks.result c.from_residual-in_err-show_blocks.ensures.1 in
-    rw (p.1, p.2) (blocks_not_shown g.F.Failures.known g.F.Failures.memory c.args.file (columns_by c.args.words.columns) c.args.words.limit g.F.Failures.still g.F.Failures.failures g.F.Failures.given g.met.F.Seeks.known_still
+    rw (p.1, p.2) (blocks_not_shown g.F.Failures.device c.args.file (columns_by c.args.words.columns) c.args.words.limit g.met.F.Seeks.known_still
     c.in-Some.reader c.in_err-show_blocks.field-0.0 (rw c.in-Some.is at c.in_ok-reader.ensures.opens) c.in_err-show_blocks.ensures.broken)
 
 pub returns-clause-shown : goal.returns-clause-shown
 returns-clause-shown g c = λ done.
-    blocks_shown g.F.Failures.known g.F.Failures.still g.F.Failures.memory g.F.Failures.failures g.F.Failures.given g.met.F.Seeks.known_still c.args.file (columns_by c.args.words.columns) c.args.words.limit
+    blocks_shown g.F.Failures.device g.met.F.Seeks.known_still c.args.file (columns_by c.args.words.columns) c.args.words.limit
     c.in-Some.reader (rw c.in-Some.is at c.in_ok-reader.ensures.opens) c.in_ok-show_blocks.ensures.shown
 
 pub returns-in_default-clause-prints : goal.returns-in_default-clause-prints

@@ -6,5 +6,5 @@ use Rattle.ipc_programs.proofs.cat.printer.put_text.Given as goal
 abbrev pub invariant-loop-at : goal.invariant-loop-at
 invariant-loop-at g l = record {
   within : l.start ≤ l.at;
-  prints : Prints g.W.Failures.known g.W.Failures.failures g.W.Failures.memory l.fn.printer l.printer;
+  prints : Prints g.W.Failures.device l.fn.printer l.printer;
 }

@@ -10,7 +10,7 @@ use Rattle.ipc_programs.proofs.cat.show.open_stream.Goals as goal
 pub returns-in_err-metadata-clause-refused : goal.returns-in_err-metadata-clause-refused
 returns-in_err-metadata-clause-refused g c =
     let p = err_from_is_err_and c.from_residual.result c.from_residual.ensures.1 in
-    rw (p.1, p.2) (front_not_shown g.R.Reads.gives g.R.Failures.known g.R.Failures.memory g.met.R.Reads.gives_ahead c.args.input (columns_by c.args.columns)
+    rw (p.1, p.2) (front_not_shown g.R.Reads.gives g.R.Failures.device g.met.R.Reads.laws.ahead c.args.input (columns_by c.args.columns)
     c.in_err-metadata.field-0.0 c.read_stream_metadata.new.reader c.in_err-metadata.ensures.gives)
 
 pub returns-in_default-clause-wrong : goal.returns-in_default-clause-wrong
@@ -19,7 +19,7 @@ returns-in_default-clause-wrong g c = λ none.
     let asked = columns_by c.args.columns in
     let many : c.len-count.result ≡ length m.schema.fields.items = search rules in
     let others = subst (λ (x : Chosen). IsChoice asked c.len-count.result x) c.in_default.is c.in_ok-projection.ensures in
-    stream_has_others g.R.Reads.gives g.R.Failures.known g.R.Failures.memory g.met.R.Reads.gives_ahead c.args.input c.read_stream_metadata.new.reader m c.in_ok-metadata.ensures.gives
+    stream_has_others g.R.Reads.gives g.R.Failures.device g.met.R.Reads.laws.ahead c.args.input c.read_stream_metadata.new.reader m c.in_ok-metadata.ensures.gives
     asked (subst (λ (n : ℕ). ¬ IsProjection asked n) many others)
 
 pub returns-clause-opens : goal.returns-clause-opens
@@ -29,6 +29,6 @@ returns-clause-opens g c =
       metadata = c.in_ok-metadata.metadata;
       device = c.read_stream_metadata.new.reader;
       front = c.in_ok-metadata.ensures.gives;
-      unread = c.in_ok-reader.ensures.ok;
-      columns = c.in_ok-reader.ensures.asked ∙ chosen.0;
+      unread = c.in_ok-reader.ensures.made.unread;
+      columns = c.in_ok-reader.ensures.made.asked ∙ chosen.0;
     }

@@ -2,4 +2,4 @@ use Rattle.ipc_programs.specs.Printing.{Prints}
 use Rattle.ipc_programs.proofs.cat.show.put_chunk.Given as goal
 
 abbrev pub invariant-loop-row : goal.invariant-loop-row
-invariant-loop-row g l = Prints g.W.Failures.known g.W.Failures.failures g.W.Failures.memory l.fn.printer l.printer
+invariant-loop-row g l = Prints g.W.Failures.device l.fn.printer l.printer

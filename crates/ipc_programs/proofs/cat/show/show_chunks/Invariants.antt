@@ -8,5 +8,5 @@ use Rattle.ipc_programs.proofs.cat.show.show_chunks.Given as goal
 abbrev pub invariant-loop : goal.invariant-loop
 invariant-loop g l = record {
   came : HandedMany (StreamCame g.R.Reads.gives) anything l.counter l.fn.reader tt l.reader tt;
-  prints : Prints g.W.Failures.known g.W.Failures.failures g.W.Failures.memory l.fn.printer l.printer;
+  prints : Prints g.W.Failures.device l.fn.printer l.printer;
 }

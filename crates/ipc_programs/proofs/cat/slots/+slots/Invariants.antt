@@ -17,7 +17,7 @@ abbrev pub decreases-put_record : goal.decreases-put_record
 decreases-put_record g l = 4 * heights (layouts (map layout_of l.children.now)) + 1
 
 abbrev pub invariant-put_list-loop-index : goal.invariant-put_list-loop-index
-invariant-put_list-loop-index g l = Prints g.W.Failures.known g.W.Failures.failures g.W.Failures.memory l.fn.printer l.printer
+invariant-put_list-loop-index g l = Prints g.W.Failures.device l.fn.printer l.printer
 
 abbrev pub invariant-put_record-loop-index : goal.invariant-put_record-loop-index
-invariant-put_record-loop-index g l = Prints g.W.Failures.known g.W.Failures.failures g.W.Failures.memory l.fn.printer l.printer
+invariant-put_record-loop-index g l = Prints g.W.Failures.device l.fn.printer l.printer

@@ -8,16 +8,16 @@ pub returns-clause-takes : goal.returns-clause-takes
 returns-clause-takes g c = takes_stream _ _ _ _ _ c.new.ensures.now (λ e. search rules) c.in_ok-file.ensures.takes
 
 pub returns-clause-done : goal.returns-clause-done
-returns-clause-done g c = (c.in_ok-file.ensures.done.0, takes_unfailed g.R.Reads.gives g.R.Failures.failures g.met.R.Reads.gives_fails _ _ (returns-clause-takes g c))
+returns-clause-done g c = (c.in_ok-file.ensures.device.done.0, takes_unfailed g.R.Reads.gives g.R.Failures.device.failures g.met.R.Reads.laws.fails _ _ (returns-clause-takes g c))
 
 pub returns-clause-appends : goal.returns-clause-appends
-returns-clause-appends g c known at = copies_stream _ _ _ _ _ _ _ c.new.ensures.now (λ e. search rules) (λ schema cs end h. h) (c.in_ok-file.ensures.appends known at)
+returns-clause-appends g c known at = copies_stream _ _ _ _ _ _ _ c.new.ensures.now (λ e. search rules) (λ schema cs end h. h) (c.in_ok-file.ensures.exact known at)
 
 pub returns-in_err-file-clause-refused : goal.returns-in_err-file-clause-refused
 returns-in_err-file-clause-refused g c =
     let p = err_from_is_err_and c.from_residual.result c.from_residual.ensures.1 in
     let e = c.in_err-file.field-0.0 in
-    rw (p.1, p.2) (file_refused g.F.Failures.known (g.F.Failures.memory c.args.file) e _ _ (λ why. elim why [
+    rw (p.1, p.2) (file_refused g.F.Failures.device.is_memory (g.F.Failures.device.memory c.args.file) e _ _ (λ why. elim why [
       | inl none ↦ inl none
-      | inr refused ↦ inr (refuses_appended g.F.Failures.known g.F.Failures.memory c.args.file g.R.Reads.gives g.R.Failures.known g.R.Failures.memory c.new.result c.args.input.now e c.new.ensures.now refused)
-    ]) c.in_err-file.ensures.refused)
+      | inr refused ↦ inr (refuses_appended g.F.Failures.device c.args.file g.R.Reads.gives g.R.Failures.device c.new.result c.args.input.now e c.new.ensures.now refused)
+    ]) c.in_err-file.ensures.causes)

@@ -29,7 +29,7 @@ use Rattle.ipc_read.proofs.read.common.read_columns.Goals as goal
 
 pub loop-index-init : goal.loop-index-init
 loop-index-init g c =
-    let s = entries g.R.Failures.memory c.args.body.now in
+    let s = entries g.R.Failures.device c.args.body.now in
     let vs = known c.args.body.now in
     let fs = c.args.fields.now in
     let ts = kinds_of (fields_view fs) (all_ids_view c.args.ids.now) in
@@ -50,6 +50,7 @@ loop-index-init g c =
       monotone = omega arith;
       done = refl;
       stands = c.requires.stands;
+      names = refl;
       given = omega (arith, e);
       held = omega (arith, h1, h2);
       content = λ k.
@@ -97,7 +98,7 @@ skip-place-requires-clause-buffers g c =
 
 pub loop-index-preserved-then-not-is_chosen : goal.loop-index-preserved-then-not-is_chosen
 loop-index-preserved-then-not-is_chosen g c =
-    let s = entries g.R.Failures.memory c.args.body.now in
+    let s = entries g.R.Failures.device c.args.body.now in
     let vs = known c.args.body.now in
     let fs = c.args.fields.now in
     let is = all_ids_view c.args.ids.now in
@@ -131,6 +132,7 @@ loop-index-preserved-then-not-is_chosen g c =
       monotone = c.loop-index.invariant.monotone;
       done = c.loop-index.invariant.done;
       stands = c.loop-index.invariant.stands;
+      names = c.loop-index.invariant.names;
       given = omega (arith, e, c.loop-index.invariant.given);
       held = omega (arith, h, c.loop-index.invariant.held);
       content = λ k. so_same s vs (fields_view fs) ts c.args.limit (chosen p n) _ _ c.loop-index.columns.items stays (c.loop-index.invariant.content k);
@@ -180,7 +182,7 @@ returns-in_err-column-clause-only g c =
 
 pub returns-in_err-column-clause-step : goal.returns-in_err-column-clause-step
 returns-in_err-column-clause-step g c =
-    let s = entries g.R.Failures.memory c.args.body.now in
+    let s = entries g.R.Failures.device c.args.body.now in
     let fs = c.args.fields.now in
     let is = all_ids_view c.args.ids.now in
     let extra = c.args.body.now.extra in
@@ -201,12 +203,12 @@ returns-in_err-column-clause-step g c =
     let here : IsChosen p m i = subst (λ (k : ℕ). IsChosen p k i) count_is (c.is_chosen.ensures.0 yes) in
     let e1 = ap (columns_listed s extra ts) (left_more p n m i inside here) in
     let e2 = listed_there extra ts is left i place t at (omega (arith, inside, field_count fs is)) same s in
-    step_err g.R.Failures.still g.R.Failures.memory g.R.Failures.failures g.R.Failures.given c.args.body.now _ _ c.args.reader.now c.loop-index.reader c.read.new.reader c.in_err-column.field-0.0
-    c.from_residual-in_err-column.result c.from_residual-in_err-column.ensures c.loop-index.invariant.monotone c.loop-index.invariant.done (omega (arith, e1, e2, c.loop-index.invariant.given)) c.in_err-column.ensures.step
+    step_err g.R.Failures.device c.args.body.now _ _ c.args.reader.now c.loop-index.reader c.read.new.reader c.in_err-column.field-0.0
+    c.from_residual-in_err-column.result c.from_residual-in_err-column.ensures c.loop-index.invariant.monotone c.loop-index.invariant.done c.loop-index.invariant.names (omega (arith, e1, e2, c.loop-index.invariant.given)) c.in_err-column.ensures.step
 
 pub returns-in_err-column-clause-memory : goal.returns-in_err-column-clause-memory
 returns-in_err-column-clause-memory g c = λ k.
-    let s = entries g.R.Failures.memory c.args.body.now in
+    let s = entries g.R.Failures.device c.args.body.now in
     let vs = known c.args.body.now in
     let fs = c.args.fields.now in
     let is = all_ids_view c.args.ids.now in
@@ -232,7 +234,7 @@ returns-in_err-column-clause-memory g c = λ k.
     let fault = c.in_err-column.field-0.0 in
     let denied : OwnFault fault (HasColumns s ts limit (chosen p n) → ⊥) =
     denies_through fault (IsWell s t place.node place.buffer limit) (HasColumns s ts limit (chosen p n))
-    (λ h. well_here extra ts is left i place t at listed same s limit (sym (extra_is g.R.Failures.memory c.args.body.now))
+    (λ h. well_here extra ts is left i place t at listed same s limit (sym (extra_is g.R.Failures.device c.args.body.now))
     (one_on s vs (fields_view fs) ts limit (chosen p n) _ _ c.loop-index.columns.items i more (c.loop-index.invariant.content k) h))
     (c.in_err-column.ensures.memory k)
     in
@@ -240,7 +242,7 @@ returns-in_err-column-clause-memory g c = λ k.
 
 pub returns-in_err-push-clause-step : goal.returns-in_err-push-clause-step
 returns-in_err-push-clause-step g c =
-    let s = entries g.R.Failures.memory c.args.body.now in
+    let s = entries g.R.Failures.device c.args.body.now in
     let fs = c.args.fields.now in
     let is = all_ids_view c.args.ids.now in
     let extra = c.args.body.now.extra in
@@ -263,6 +265,7 @@ returns-in_err-push-clause-step g c =
     let e2 = listed_there extra ts is left i place t at (omega (arith, inside, field_count fs is)) same s in
     record {
       stands = c.in_ok-column.ensures.step.stands;
+      names = c.in_ok-column.ensures.step.names ∙ c.loop-index.invariant.names;
       monotone = omega (arith, c.loop-index.invariant.monotone, c.in_ok-column.ensures.step.monotone);
       failed = search rules;
       told = search rules;
@@ -271,7 +274,7 @@ returns-in_err-push-clause-step g c =
 
 pub loop-index-preserved : goal.loop-index-preserved
 loop-index-preserved g c =
-    let s = entries g.R.Failures.memory c.args.body.now in
+    let s = entries g.R.Failures.device c.args.body.now in
     let vs = known c.args.body.now in
     let fs = c.args.fields.now in
     let is = all_ids_view c.args.ids.now in
@@ -304,7 +307,7 @@ loop-index-preserved g c =
     let h2 = held_there extra ts is left i place t at listed same s (layout_of x) c.in_ok-column.ensures.held in
     let h3 = ap (λ (k : ℕ). columns_most s extra ts (left_of p n k (i + 1))) grown in
     let h4 = ap arrays_held pushed ∙ sum_by_push (λ (y : AnyArray). held (layout_of y)) c.loop-index.columns.items x in
-    let fronted = sym (extra_is g.R.Failures.memory c.args.body.now) in
+    let fronted = sym (extra_is g.R.Failures.device c.args.body.now) in
     record {
       at = next_place extra ts is left i place t at listed same (all_ids_view c.others_of-left.result.now) c.in_ok-column.next c.others_of-left.ensures c.in_ok-column.ensures.next;
       rest = subst (λ (k : ℕ). AreLeft p n k (i + 1)) grown (left_chosen p n m i inside here c.loop-index.invariant.rest);
@@ -313,6 +316,7 @@ loop-index-preserved g c =
       monotone = omega (arith, c.loop-index.invariant.monotone, c.in_ok-column.ensures.step.monotone);
       done = c.in_ok-column.ensures.step.told ∙ c.loop-index.invariant.done;
       stands = c.in_ok-column.ensures.step.stands;
+      names = c.in_ok-column.ensures.step.names ∙ c.loop-index.invariant.names;
       given = omega (arith, e1, e2, e3, c.loop-index.invariant.given, c.in_ok-column.ensures.step.bounded);
       held = omega (arith, h1, h2, h3, h4, c.loop-index.invariant.held);
       content = λ k.
@@ -330,7 +334,7 @@ returns-clause-memory g c = λ k.
     let p : Option (List ℕ) = option_copied c.args.projection in
     let n = length fs in
     let past : n ≤ c.loop-index.index = search rules in
-    so_end (entries g.R.Failures.memory c.args.body.now) (known c.args.body.now) (fields_view fs) (kinds_of (fields_view fs) (all_ids_view c.args.ids.now)) c.args.limit (chosen p n) _ c.loop-index.columns.items
+    so_end (entries g.R.Failures.device c.args.body.now) (known c.args.body.now) (fields_view fs) (kinds_of (fields_view fs) (all_ids_view c.args.ids.now)) c.args.limit (chosen p n) _ c.loop-index.columns.items
     (left_none p n (length c.loop-index.columns.items) c.loop-index.index past c.loop-index.invariant.rest) (c.loop-index.invariant.content k)
 
 pub returns-clause-many : goal.returns-clause-many

@@ -20,19 +20,20 @@ invariant-loop-index g l = record {
       (left_of (option_copied l.projection) (length l.fields) (length l.columns.items) l.index);
   many : length l.columns.items + length (left_of (option_copied l.projection) (length l.fields) (length l.columns.items) l.index)
       ≡ length (chosen (option_copied l.projection) (length l.fields));
-  monotone : g.R.Failures.failures l.fn.reader ≤ g.R.Failures.failures l.reader;
-  done : g.R.Failures.failures l.reader ≡ g.R.Failures.failures l.fn.reader;
-  stands : KeepsBytes g.R.Failures.still g.R.Failures.memory l.reader l.body;
-  given : g.R.Failures.given l.reader
-      + columns_listed (entries g.R.Failures.memory l.body) l.body.extra (kinds_of (fields_view l.fields) (all_ids_view l.ids))
+  monotone : g.R.Failures.device.failures l.fn.reader ≤ g.R.Failures.device.failures l.reader;
+  done : g.R.Failures.device.failures l.reader ≡ g.R.Failures.device.failures l.fn.reader;
+  stands : KeepsBytes g.R.Failures.device l.reader l.body;
+  names : g.R.Failures.device.names l.reader ≡ g.R.Failures.device.names l.fn.reader;
+  given : g.R.Failures.device.given l.reader
+      + columns_listed (entries g.R.Failures.device l.body) l.body.extra (kinds_of (fields_view l.fields) (all_ids_view l.ids))
       (left_of (option_copied l.projection) (length l.fields) (length l.columns.items) l.index)
-      ≤ g.R.Failures.given l.fn.reader
-      + columns_listed (entries g.R.Failures.memory l.body) l.body.extra (kinds_of (fields_view l.fields) (all_ids_view l.ids)) (chosen (option_copied l.projection) (length l.fields));
+      ≤ g.R.Failures.device.given l.fn.reader
+      + columns_listed (entries g.R.Failures.device l.body) l.body.extra (kinds_of (fields_view l.fields) (all_ids_view l.ids)) (chosen (option_copied l.projection) (length l.fields));
   held : arrays_held l.columns.items
-      + columns_most (entries g.R.Failures.memory l.body) l.body.extra (kinds_of (fields_view l.fields) (all_ids_view l.ids))
+      + columns_most (entries g.R.Failures.device l.body) l.body.extra (kinds_of (fields_view l.fields) (all_ids_view l.ids))
       (left_of (option_copied l.projection) (length l.fields) (length l.columns.items) l.index)
-      ≤ columns_most (entries g.R.Failures.memory l.body) l.body.extra (kinds_of (fields_view l.fields) (all_ids_view l.ids)) (chosen (option_copied l.projection) (length l.fields));
-  content : IsTrue g.R.Failures.known
-      → SoFar (entries g.R.Failures.memory l.body) (known l.body) (fields_view l.fields) (kinds_of (fields_view l.fields) (all_ids_view l.ids)) l.limit (chosen (option_copied l.projection) (length l.fields))
+      ≤ columns_most (entries g.R.Failures.device l.body) l.body.extra (kinds_of (fields_view l.fields) (all_ids_view l.ids)) (chosen (option_copied l.projection) (length l.fields));
+  content : IsTrue g.R.Failures.device.is_memory
+      → SoFar (entries g.R.Failures.device l.body) (known l.body) (fields_view l.fields) (kinds_of (fields_view l.fields) (all_ids_view l.ids)) l.limit (chosen (option_copied l.projection) (length l.fields))
       (left_of (option_copied l.projection) (length l.fields) (length l.columns.items) l.index) l.columns.items;
 }

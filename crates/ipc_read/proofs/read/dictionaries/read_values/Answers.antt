@@ -32,7 +32,7 @@ returns-in_err-nodes-clause-memory g c = λ k.
     let u = type_view c.args.value_type.now in
     let schema : Schema = schema_of u (all_ids_view c.args.ids.now) (order_of c.args.is_little_endian) in
     let ds = known_dictionaries c.args.dictionaries.now in
-    let body : model.Body = record { source = (g.R.Failures.memory c.args.reader.now).whole; base = c.args.block_offset; size = c.args.file_size } in
+    let body : model.Body = record { source = (g.R.Failures.device.memory c.args.reader.now).whole; base = c.args.block_offset; size = c.args.file_size } in
     rw e (column_refused fault (IsSome (lists_of c.args.batch)) schema (extra_of c.args.version) ds body c.args.batch u denied
     (λ h. listed_of schema (extra_of c.args.version) ds body c.args.batch None None h))
 
@@ -47,7 +47,7 @@ returns-in_err-check_lengths-clause-memory g c = λ k.
     let is = all_ids_view c.args.ids.now in
     let order = order_of c.args.is_little_endian in
     let ds = known_dictionaries c.args.dictionaries.now in
-    let body : model.Body = record { source = (g.R.Failures.memory c.args.reader.now).whole; base = c.args.block_offset; size = c.args.file_size } in
+    let body : model.Body = record { source = (g.R.Failures.device.memory c.args.reader.now).whole; base = c.args.block_offset; size = c.args.file_size } in
     rw e (column_refused fault P (schema_of u is order) (extra_of c.args.version) ds body c.args.batch u denied
     (λ h.
     let j = (column_judged (extra_of c.args.version) ds body c.args.batch u is order lists c.in_ok-nodes.ensures.exact.1 h).0 in
@@ -65,7 +65,7 @@ returns-in_err-check_column-clause-memory g c = λ k.
     let ds = known_dictionaries c.args.dictionaries.now in
     let P : Type 0 = (nodes u ≤ length lists.nodes) × (buffers c.count_extra-extra.result u ≤ length lists.buffers) in
     let denied : OwnFault fault (P → ⊥) = search rules in
-    let body : model.Body = record { source = (g.R.Failures.memory c.args.reader.now).whole; base = c.args.block_offset; size = c.args.file_size } in
+    let body : model.Body = record { source = (g.R.Failures.device.memory c.args.reader.now).whole; base = c.args.block_offset; size = c.args.file_size } in
     let fronted = ap (λ (x : ℕ). buffers x u) c.count_extra-extra.ensures.extra in
     rw e (column_refused fault P (schema_of u is order) extra ds body c.args.batch u denied
     (λ h.
@@ -124,9 +124,9 @@ returns-in_err-values-clause-memory g c = λ k.
     let t = kind_of u None is in
     let order = order_of c.args.is_little_endian in
     let ds = known_dictionaries c.args.dictionaries.now in
-    let body : model.Body = record { source = (g.R.Failures.memory c.args.reader.now).whole; base = c.args.block_offset; size = c.args.file_size } in
-    let same : entries g.R.Failures.memory _ ≡ entries_of lists body order extra ds =
-    same_entries g.R.Failures.memory _ lists body order extra refl refl (ap (λ r. (g.R.Failures.memory r).whole) c.of.ensures) refl c.byte_order.ensures c.count_extra-extra.ensures.extra in
+    let body : model.Body = record { source = (g.R.Failures.device.memory c.args.reader.now).whole; base = c.args.block_offset; size = c.args.file_size } in
+    let same : entries g.R.Failures.device _ ≡ entries_of lists body order extra ds =
+    same_entries g.R.Failures.device _ lists body order extra refl refl (ap (λ r. (g.R.Failures.device.memory r).whole) c.of.ensures) refl c.byte_order.ensures c.count_extra-extra.ensures.extra in
     let P : Type 0 = IsWell (entries_of lists body order extra ds) t 0 0 None in
     let denied : OwnFault fault (P → ⊥) = subst (λ (s : Entries). OwnFault fault (IsWell s t 0 0 None → ⊥)) same (c.in_err-values.ensures.memory k) in
     rw e (column_refused fault P (schema_of u is order) extra ds body c.args.batch u denied
@@ -142,9 +142,9 @@ returns-clause-memory g c = λ k.
     let order = order_of c.args.is_little_endian in
     let ds = known_dictionaries c.args.dictionaries.now in
     let vs = array_under c.args.dictionaries.now in
-    let body : model.Body = record { source = (g.R.Failures.memory c.args.reader.now).whole; base = c.args.block_offset; size = c.args.file_size } in
-    let same : entries g.R.Failures.memory _ ≡ entries_of lists body order extra ds =
-    same_entries g.R.Failures.memory _ lists body order extra refl refl (ap (λ r. (g.R.Failures.memory r).whole) c.of.ensures) refl c.byte_order.ensures c.count_extra-extra.ensures.extra in
+    let body : model.Body = record { source = (g.R.Failures.device.memory c.args.reader.now).whole; base = c.args.block_offset; size = c.args.file_size } in
+    let same : entries g.R.Failures.device _ ≡ entries_of lists body order extra ds =
+    same_entries g.R.Failures.device _ lists body order extra refl refl (ap (λ r. (g.R.Failures.device.memory r).whole) c.of.ensures) refl c.byte_order.ensures c.count_extra-extra.ensures.extra in
     let sizes = c.in_ok-check_lengths.ensures.exact.0 in
     let counts = c.in_ok-check_column.ensures.exact.0 in
     let fronted = ap (λ (x : ℕ). buffers x u) c.count_extra-extra.ensures.extra in
@@ -170,11 +170,11 @@ returns-in_err-values-clause-given g c =
     let is = all_ids_view c.args.ids.now in
     let order = order_of c.args.is_little_endian in
     let ds = known_dictionaries c.args.dictionaries.now in
-    let body : model.Body = record { source = (g.R.Failures.memory c.args.reader.now).whole; base = c.args.block_offset; size = c.args.file_size } in
-    let same : entries g.R.Failures.memory _ ≡ entries_of lists body order extra ds =
-    same_entries g.R.Failures.memory _ lists body order extra refl refl (ap (λ r. (g.R.Failures.memory r).whole) c.of.ensures) refl c.byte_order.ensures c.count_extra-extra.ensures.extra in
-    values_given g.R.Failures.memory _ lists body order extra ds (lists_of c.args.batch) u is
-    (g.R.Failures.given c.args.reader.now) (g.R.Failures.given c.read.new.reader) same c.count_extra-extra.ensures.extra c.in_ok-nodes.ensures.exact.1
+    let body : model.Body = record { source = (g.R.Failures.device.memory c.args.reader.now).whole; base = c.args.block_offset; size = c.args.file_size } in
+    let same : entries g.R.Failures.device _ ≡ entries_of lists body order extra ds =
+    same_entries g.R.Failures.device _ lists body order extra refl refl (ap (λ r. (g.R.Failures.device.memory r).whole) c.of.ensures) refl c.byte_order.ensures c.count_extra-extra.ensures.extra in
+    values_given g.R.Failures.device _ lists body order extra ds (lists_of c.args.batch) u is
+    (g.R.Failures.device.given c.args.reader.now) (g.R.Failures.device.given c.read.new.reader) same c.count_extra-extra.ensures.extra c.in_ok-nodes.ensures.exact.1
     c.in_err-values.ensures.step.bounded
 
 pub returns-clause-given : goal.returns-clause-given
@@ -185,11 +185,11 @@ returns-clause-given g c =
     let is = all_ids_view c.args.ids.now in
     let order = order_of c.args.is_little_endian in
     let ds = known_dictionaries c.args.dictionaries.now in
-    let body : model.Body = record { source = (g.R.Failures.memory c.args.reader.now).whole; base = c.args.block_offset; size = c.args.file_size } in
-    let same : entries g.R.Failures.memory _ ≡ entries_of lists body order extra ds =
-    same_entries g.R.Failures.memory _ lists body order extra refl refl (ap (λ r. (g.R.Failures.memory r).whole) c.of.ensures) refl c.byte_order.ensures c.count_extra-extra.ensures.extra in
-    values_given g.R.Failures.memory _ lists body order extra ds (lists_of c.args.batch) u is
-    (g.R.Failures.given c.args.reader.now) (g.R.Failures.given c.read.new.reader) same c.count_extra-extra.ensures.extra c.in_ok-nodes.ensures.exact.1
+    let body : model.Body = record { source = (g.R.Failures.device.memory c.args.reader.now).whole; base = c.args.block_offset; size = c.args.file_size } in
+    let same : entries g.R.Failures.device _ ≡ entries_of lists body order extra ds =
+    same_entries g.R.Failures.device _ lists body order extra refl refl (ap (λ r. (g.R.Failures.device.memory r).whole) c.of.ensures) refl c.byte_order.ensures c.count_extra-extra.ensures.extra in
+    values_given g.R.Failures.device _ lists body order extra ds (lists_of c.args.batch) u is
+    (g.R.Failures.device.given c.args.reader.now) (g.R.Failures.device.given c.read.new.reader) same c.count_extra-extra.ensures.extra c.in_ok-nodes.ensures.exact.1
     c.in_ok-values.ensures.step.bounded
 
 pub returns-clause-held : goal.returns-clause-held
@@ -200,10 +200,10 @@ returns-clause-held g c =
     let is = all_ids_view c.args.ids.now in
     let order = order_of c.args.is_little_endian in
     let ds = known_dictionaries c.args.dictionaries.now in
-    let body : model.Body = record { source = (g.R.Failures.memory c.args.reader.now).whole; base = c.args.block_offset; size = c.args.file_size } in
-    let same : entries g.R.Failures.memory _ ≡ entries_of lists body order extra ds =
-    same_entries g.R.Failures.memory _ lists body order extra refl refl (ap (λ r. (g.R.Failures.memory r).whole) c.of.ensures) refl c.byte_order.ensures c.count_extra-extra.ensures.extra in
-    column_held g.R.Failures.memory _ lists body order extra ds (lists_of c.args.batch) u is c.in_ok-values.values same c.count_extra-extra.ensures.extra c.in_ok-nodes.ensures.exact.1
+    let body : model.Body = record { source = (g.R.Failures.device.memory c.args.reader.now).whole; base = c.args.block_offset; size = c.args.file_size } in
+    let same : entries g.R.Failures.device _ ≡ entries_of lists body order extra ds =
+    same_entries g.R.Failures.device _ lists body order extra refl refl (ap (λ r. (g.R.Failures.device.memory r).whole) c.of.ensures) refl c.byte_order.ensures c.count_extra-extra.ensures.extra in
+    column_held g.R.Failures.device _ lists body order extra ds (lists_of c.args.batch) u is c.in_ok-values.values same c.count_extra-extra.ensures.extra c.in_ok-nodes.ensures.exact.1
     c.in_ok-check_lengths.ensures.exact.0.1 c.in_ok-values.ensures.held
 
 pub returns-in_err-nodes-clause-tells : goal.returns-in_err-nodes-clause-tells
@@ -211,16 +211,16 @@ returns-in_err-nodes-clause-tells g c =
     let fault = c.in_err-nodes.field-0.0 in
     let e : c.from_residual.result ≡ Err fault = search rules in
     let denied : OwnFault fault (IsSome (lists_of c.args.batch) → ⊥) = search rules in
-    rw e (unlisted_tells g.R.Failures.known (order_of c.args.is_little_endian) (extra_of c.args.version) (known_dictionaries c.args.dictionaries.now)
-    (record { source = (g.R.Failures.memory c.args.reader.now).whole; base = c.args.block_offset; size = c.args.file_size }) c.args.batch fault denied)
+    rw e (unlisted_tells g.R.Failures.device.is_memory (order_of c.args.is_little_endian) (extra_of c.args.version) (known_dictionaries c.args.dictionaries.now)
+    (record { source = (g.R.Failures.device.memory c.args.reader.now).whole; base = c.args.block_offset; size = c.args.file_size }) c.args.batch fault denied)
 
 pub returns-in_err-check_lengths-clause-tells : goal.returns-in_err-check_lengths-clause-tells
 returns-in_err-check_lengths-clause-tells g c =
     let fault = c.in_err-check_lengths.field-0.0 in
     let e : c.from_residual-in_err-check_lengths.result ≡ Err fault = search rules in
     let lists : Lists = record { nodes = c.in_ok-nodes.nodes; buffers = c.in_ok-nodes.buffers } in
-    rw e (lengths_say g.R.Failures.known (order_of c.args.is_little_endian) (extra_of c.args.version) (known_dictionaries c.args.dictionaries.now)
-    (record { source = (g.R.Failures.memory c.args.reader.now).whole; base = c.args.block_offset; size = c.args.file_size }) c.args.batch lists c.in_ok-nodes.ensures.exact.1
+    rw e (lengths_say g.R.Failures.device.is_memory (order_of c.args.is_little_endian) (extra_of c.args.version) (known_dictionaries c.args.dictionaries.now)
+    (record { source = (g.R.Failures.device.memory c.args.reader.now).whole; base = c.args.block_offset; size = c.args.file_size }) c.args.batch lists c.in_ok-nodes.ensures.exact.1
     c.args.file_size fault c.in_err-check_lengths.ensures.tells)
 
 pub returns-in_err-check_column-clause-tells : goal.returns-in_err-check_column-clause-tells
@@ -228,8 +228,8 @@ returns-in_err-check_column-clause-tells g c =
     let fault = c.in_err-check_column.field-0.0 in
     let e : c.from_residual-in_err-check_column.result ≡ Err fault = search rules in
     let lists : Lists = record { nodes = c.in_ok-nodes.nodes; buffers = c.in_ok-nodes.buffers } in
-    rw e (counts_say g.R.Failures.known (order_of c.args.is_little_endian) (extra_of c.args.version) (known_dictionaries c.args.dictionaries.now)
-    (record { source = (g.R.Failures.memory c.args.reader.now).whole; base = c.args.block_offset; size = c.args.file_size }) c.args.batch lists c.in_ok-nodes.ensures.exact.1
+    rw e (counts_say g.R.Failures.device.is_memory (order_of c.args.is_little_endian) (extra_of c.args.version) (known_dictionaries c.args.dictionaries.now)
+    (record { source = (g.R.Failures.device.memory c.args.reader.now).whole; base = c.args.block_offset; size = c.args.file_size }) c.args.batch lists c.in_ok-nodes.ensures.exact.1
     _ _ _ _ fault c.in_err-check_column.ensures.tells)
 
 pub returns-in_err-values-clause-tells : goal.returns-in_err-values-clause-tells
@@ -240,8 +240,8 @@ returns-in_err-values-clause-tells g c =
     let extra = extra_of c.args.version in
     let order = order_of c.args.is_little_endian in
     let ds = known_dictionaries c.args.dictionaries.now in
-    let body : model.Body = record { source = (g.R.Failures.memory c.args.reader.now).whole; base = c.args.block_offset; size = c.args.file_size } in
-    let same : entries g.R.Failures.memory _ ≡ entries_of lists body order extra ds =
-    same_entries g.R.Failures.memory _ lists body order extra refl refl (ap (λ r. (g.R.Failures.memory r).whole) c.of.ensures) refl c.byte_order.ensures c.count_extra-extra.ensures.extra in
-    rw e (entries_tell g.R.Failures.known order extra ds body c.args.batch lists c.in_ok-nodes.ensures.exact.1 fault
-    (subst (λ (s : Entries). OwnFault fault (TellsEntries g.R.Failures.known s fault)) same c.in_err-values.ensures.tells))
+    let body : model.Body = record { source = (g.R.Failures.device.memory c.args.reader.now).whole; base = c.args.block_offset; size = c.args.file_size } in
+    let same : entries g.R.Failures.device _ ≡ entries_of lists body order extra ds =
+    same_entries g.R.Failures.device _ lists body order extra refl refl (ap (λ r. (g.R.Failures.device.memory r).whole) c.of.ensures) refl c.byte_order.ensures c.count_extra-extra.ensures.extra in
+    rw e (entries_tell g.R.Failures.device.is_memory order extra ds body c.args.batch lists c.in_ok-nodes.ensures.exact.1 fault
+    (subst (λ (s : Entries). OwnFault fault (TellsEntries g.R.Failures.device.is_memory s fault)) same c.in_err-values.ensures.tells))

@@ -11,5 +11,5 @@ pub returns-in_err-natural-clause-tells : goal.returns-in_err-natural-clause-tel
 returns-in_err-natural-clause-tells g c =
     let fault = c.in_err-natural.field-0.0 in
     let denied : OwnFault fault (IsSize c.get.result.offset → ⊥) = search rules in
-    failing c.from_residual.result fault (λ e. OwnFault e (TellsEntries g.R.Failures.known (entries g.R.Failures.memory c.args.body.now) e)) c.from_residual.ensures
-    (offset_fetched g.R.Failures.known g.R.Failures.memory c.args.body.now c.args.index c.get.result c.requires.inside c.get.ensures fault c.in_err-natural.ensures.only denied)
+    failing c.from_residual.result fault (λ e. OwnFault e (TellsEntries g.R.Failures.device.is_memory (entries g.R.Failures.device c.args.body.now) e)) c.from_residual.ensures
+    (offset_fetched g.R.Failures.device c.args.body.now c.args.index c.get.result c.requires.inside c.get.ensures fault c.in_err-natural.ensures.only denied)

@@ -25,7 +25,7 @@ returns-clause-memory g c = λ k.
     in
     let natural : IsSize c.get-entry.result.offset = search rules in
     let offset : c.in_ok-offset.offset ≡ size c.get-entry.result.offset = search rules in
-    fetched (λ xs (v : Vec g.row.T.Denot Global). v.items ≡ values_of value w xs) g.R.Failures.memory c.args.body.now c.args.index (w * c.args.count)
+    fetched (λ xs (v : Vec g.row.T.Denot Global). v.items ≡ values_of value w xs) g.R.Failures.device c.args.body.now c.args.index (w * c.args.count)
     _ _ c.read_numbers_at.result c.requires.inside (subst (λ (e : Buffer). IsSize e.offset) (sym got) natural)
     (ap (λ n. c.args.body.now.base + n) (offset ∙ ap (λ (e : Buffer). size e.offset) (sym got))) long (mul-pos some (omega arith))
     (c.requires.stands (g.met.R.Seeks.known_still k)) (c.read_numbers_at.ensures.memory k)
@@ -37,15 +37,15 @@ returns-clause-tells g c =
     let fits : c.width-width.result * c.args.count ≤ c.size_of-listed.result = search rules in
     let long : g.T.NativeType.width * c.args.count ≤ size c.get-entry.result.length = omega (arith, fits, listed, ap (λ n. n * c.args.count) is) in
     let natural : IsSize c.get-entry.result.offset = search rules in
-    ended_fetched g.R.Failures.known g.R.Failures.memory c.args.body.now c.args.index c.get-entry.result c.requires.inside c.get-entry.ensures (g.T.NativeType.width * c.args.count)
-    c.read_numbers_at.result (λ (v : Vec g.row.T.Denot Global). v.items ≡ values_of (g.T.NativeType.value c.args.body.now.order) g.T.NativeType.width (take (g.T.NativeType.width * c.args.count) (bytes (entries g.R.Failures.memory c.args.body.now) c.args.index))) natural long c.read_numbers_at.ensures.only (returns-clause-memory g c)
+    ended_fetched g.R.Failures.device c.args.body.now c.args.index c.get-entry.result c.requires.inside c.get-entry.ensures (g.T.NativeType.width * c.args.count)
+    c.read_numbers_at.result (λ (v : Vec g.row.T.Denot Global). v.items ≡ values_of (g.T.NativeType.value c.args.body.now.order) g.T.NativeType.width (take (g.T.NativeType.width * c.args.count) (bytes (entries g.R.Failures.device c.args.body.now) c.args.index))) natural long c.read_numbers_at.ensures.only (returns-clause-memory g c)
 
 pub returns-in_err-offset-clause-tells : goal.returns-in_err-offset-clause-tells
 returns-in_err-offset-clause-tells g c =
     let fault = c.in_err-offset.field-0.0 in
     let denied : OwnFault fault (IsSize c.get-entry.result.offset → ⊥) = search rules in
-    failing c.from_residual.result fault (λ e. OwnFault e (TellsEntries g.R.Failures.known (entries g.R.Failures.memory c.args.body.now) e)) c.from_residual.ensures
-    (offset_fetched g.R.Failures.known g.R.Failures.memory c.args.body.now c.args.index c.get-entry.result c.requires.inside c.get-entry.ensures fault
+    failing c.from_residual.result fault (λ e. OwnFault e (TellsEntries g.R.Failures.device.is_memory (entries g.R.Failures.device c.args.body.now) e)) c.from_residual.ensures
+    (offset_fetched g.R.Failures.device c.args.body.now c.args.index c.get-entry.result c.requires.inside c.get-entry.ensures fault
     c.in_err-offset.ensures.only denied)
 
 pub returns-then-not-fit-clause-tells : goal.returns-then-not-fit-clause-tells
@@ -55,5 +55,5 @@ returns-then-not-fit-clause-tells g c =
     let more : c.size_of-listed.result < c.width-width.result * c.args.count = search rules in
     let listed : c.size_of-listed.result ≡ size c.get-entry.result.length = search rules in
     let small : c.size_of-listed.result < 2 ^ 63 = c.size_of-listed.ensures.small in
-    short_fetched g.R.Failures.known g.R.Failures.memory c.args.body.now c.args.index c.get-entry.result c.requires.inside c.get-entry.ensures c.args.count needed c.size_of-listed.result
+    short_fetched g.R.Failures.device c.args.body.now c.args.index c.get-entry.result c.requires.inside c.get-entry.ensures c.args.count needed c.size_of-listed.result
     c.too_short.result listed (omega (arith, more, small)) c.too_short.ensures.told

@@ -22,7 +22,7 @@ returns-clause-memory g c = λ k.
     let natural : IsSize c.get-entry.result.offset = search rules in
     let offset : c.in_ok-offset.offset ≡ size c.get-entry.result.offset = search rules in
     let some : 0 < n = mul-pos c.requires.some (omega arith) in
-    fetched (λ xs (v : Vec ℕ Global). v.items ≡ xs) g.R.Failures.memory c.args.body.now c.args.index n
+    fetched (λ xs (v : Vec ℕ Global). v.items ≡ xs) g.R.Failures.device c.args.body.now c.args.index n
     _ _ c.read_bytes_at.result c.requires.inside (subst (λ (e : Buffer). IsSize e.offset) (sym got) natural)
     (ap (λ m. c.args.body.now.base + m) (offset ∙ ap (λ (e : Buffer). size e.offset) (sym got))) long some
     (c.requires.stands (g.met.R.Seeks.known_still k)) (c.read_bytes_at.ensures.memory k)
@@ -33,15 +33,15 @@ returns-clause-tells g c =
     let fits : c.args.width * c.args.count ≤ c.size_of-listed.result = search rules in
     let long : c.args.width * c.args.count ≤ size c.get-entry.result.length = omega (arith, fits, listed) in
     let natural : IsSize c.get-entry.result.offset = search rules in
-    ended_fetched g.R.Failures.known g.R.Failures.memory c.args.body.now c.args.index c.get-entry.result c.requires.inside c.get-entry.ensures (c.args.width * c.args.count)
-    c.read_bytes_at.result (λ (v : Vec ℕ Global). v.items ≡ take (c.args.width * c.args.count) (bytes (entries g.R.Failures.memory c.args.body.now) c.args.index)) natural long c.read_bytes_at.ensures.only (returns-clause-memory g c)
+    ended_fetched g.R.Failures.device c.args.body.now c.args.index c.get-entry.result c.requires.inside c.get-entry.ensures (c.args.width * c.args.count)
+    c.read_bytes_at.result (λ (v : Vec ℕ Global). v.items ≡ take (c.args.width * c.args.count) (bytes (entries g.R.Failures.device c.args.body.now) c.args.index)) natural long c.read_bytes_at.ensures.only (returns-clause-memory g c)
 
 pub returns-in_err-offset-clause-tells : goal.returns-in_err-offset-clause-tells
 returns-in_err-offset-clause-tells g c =
     let fault = c.in_err-offset.field-0.0 in
     let denied : OwnFault fault (IsSize c.get-entry.result.offset → ⊥) = search rules in
-    failing c.from_residual.result fault (λ e. OwnFault e (TellsEntries g.R.Failures.known (entries g.R.Failures.memory c.args.body.now) e)) c.from_residual.ensures
-    (offset_fetched g.R.Failures.known g.R.Failures.memory c.args.body.now c.args.index c.get-entry.result c.requires.inside c.get-entry.ensures fault
+    failing c.from_residual.result fault (λ e. OwnFault e (TellsEntries g.R.Failures.device.is_memory (entries g.R.Failures.device c.args.body.now) e)) c.from_residual.ensures
+    (offset_fetched g.R.Failures.device c.args.body.now c.args.index c.get-entry.result c.requires.inside c.get-entry.ensures fault
     c.in_err-offset.ensures.only denied)
 
 pub returns-then-not-fit-clause-tells : goal.returns-then-not-fit-clause-tells
@@ -50,5 +50,5 @@ returns-then-not-fit-clause-tells g c =
     let more : c.size_of-listed.result < c.args.width * c.args.count = search rules in
     let listed : c.size_of-listed.result ≡ size c.get-entry.result.length = search rules in
     let small : c.size_of-listed.result < 2 ^ 63 = c.size_of-listed.ensures.small in
-    short_fetched g.R.Failures.known g.R.Failures.memory c.args.body.now c.args.index c.get-entry.result c.requires.inside c.get-entry.ensures c.args.count needed c.size_of-listed.result
+    short_fetched g.R.Failures.device c.args.body.now c.args.index c.get-entry.result c.requires.inside c.get-entry.ensures c.args.count needed c.size_of-listed.result
     c.too_short.result listed (omega (arith, more, small)) c.too_short.ensures.told

@@ -14,7 +14,7 @@ use Rattle.ipc_read_flat.proofs.read.read_basic.read_offsets.Goals as goal
 
 pub returns-in_err-try_new-clause-memory : goal.returns-in_err-try_new-clause-memory
 returns-in_err-try_new-clause-memory g c = λ k.
-    let s = entries g.R.Failures.memory c.args.body.now in
+    let s = entries g.R.Failures.device c.args.body.now in
     let form = g.O.StoredOffset.form in
     let integer = g.O.Offset.integer in
     let order = c.args.body.now.order in
@@ -23,7 +23,7 @@ returns-in_err-try_new-clause-memory g c = λ k.
     let kept : is_omitted s c.args.index c.args.count ≡ false = sym c.is_omitted.ensures ∙ c.if-is_omitted.false in
     let told =
     offsets_told form integer (g.O.NativeType.value order) g.O.NativeType.width order s c.args.index c.args.count v
-    (λ ys. g.met.O.StoredOffset.reads order ys) (λ ys. g.met.O.NativeType.reads_first order ys) g.met.O.StoredOffset.form_width (order_is g.R.Failures.memory c.args.body.now) read.0.2 read.1
+    (λ ys. g.met.O.StoredOffset.reads order ys) (λ ys. g.met.O.NativeType.reads_first order ys) g.met.O.StoredOffset.form_width (order_is g.R.Failures.device c.args.body.now) read.0.2 read.1
     in
     let broken : ¬ (AreOffsets integer v) = search rules in
     let denied : Offsets s c.args.index (offset_width form) c.args.count → ⊥ = λ o. broken (offsets_were form integer s c.args.index c.args.count v told kept o) in
@@ -32,7 +32,7 @@ returns-in_err-try_new-clause-memory g c = λ k.
 
 pub returns-clause-memory : goal.returns-clause-memory
 returns-clause-memory g c = λ k.
-    let s = entries g.R.Failures.memory c.args.body.now in
+    let s = entries g.R.Failures.device c.args.body.now in
     let form = g.O.StoredOffset.form in
     let integer = g.O.Offset.integer in
     let order = c.args.body.now.order in
@@ -41,7 +41,7 @@ returns-clause-memory g c = λ k.
     let kept : is_omitted s c.args.index c.args.count ≡ false = sym c.is_omitted.ensures ∙ c.if-is_omitted.false in
     let told =
     offsets_told form integer (g.O.NativeType.value order) g.O.NativeType.width order s c.args.index c.args.count v
-    (λ ys. g.met.O.StoredOffset.reads order ys) (λ ys. g.met.O.NativeType.reads_first order ys) g.met.O.StoredOffset.form_width (order_is g.R.Failures.memory c.args.body.now) read.0.2 read.1
+    (λ ys. g.met.O.StoredOffset.reads order ys) (λ ys. g.met.O.NativeType.reads_first order ys) g.met.O.StoredOffset.form_width (order_is g.R.Failures.device c.args.body.now) read.0.2 read.1
     in
     let made : (map pos c.in_ok-try_new.field-0 ≡ map integer v) × IsOffsets c.in_ok-try_new.field-0 = search rules in
     let need : Need s c.args.index (offset_width form * (c.args.count + 1)) = subst (λ (n : ℕ). Need s c.args.index (n * (c.args.count + 1))) g.met.O.StoredOffset.form_width read.0 in (
@@ -51,14 +51,14 @@ returns-clause-memory g c = λ k.
 
 pub returns-then-is_omitted-clause-held : goal.returns-then-is_omitted-clause-held
 returns-then-is_omitted-clause-held g c =
-    let s = entries g.R.Failures.memory c.args.body.now in
+    let s = entries g.R.Failures.device c.args.body.now in
     let omitted : is_omitted s c.args.index c.args.count ≡ true = sym c.is_omitted.ensures ∙ c.if-is_omitted.true in
     zero_within s g.O.StoredOffset.form c.args.index g.O.NativeType.width c.args.count g.O.NativeType.primitive g.met.O.NativeType.width_is g.met.O.StoredOffset.form_width omitted
     c.only_zero.result c.only_zero.ensures.zero
 
 pub returns-clause-held : goal.returns-clause-held
 returns-clause-held g c =
-    let s = entries g.R.Failures.memory c.args.body.now in
+    let s = entries g.R.Failures.device c.args.body.now in
     let integer = g.O.Offset.integer in
     let os = c.in_ok-try_new.field-0 in
     let v = c.in_ok-numbers.numbers.items in

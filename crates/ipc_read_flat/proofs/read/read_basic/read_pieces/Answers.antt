@@ -24,6 +24,7 @@ pieces-preserved g c =
       done = c.in_ok-fill.ensures.done ∙ c.pieces.invariant.done;
       given = omega (arith, mul-add w had n, ap (λ m. w * m) len, c.in_ok-fill.ensures.given, long);
       whole = search rules;
+      names = c.in_ok-fill.ensures.names ∙ c.pieces.invariant.names;
       same = λ k.
           read_more (g.T.NativeType.value c.args.order) w n _ _ _ piece _ _ some (c.pieces.invariant.same k) long
           ((c.in_ok-fill.ensures.memory k).full full) c.in_ok-append.ensures.items items;

@@ -64,7 +64,7 @@ use Rattle.ipc_read_nested.proofs.read.deserialize.+columns.Goals as goal
 
 pub read_list-returns-in_err-array-clause-memory : goal.read_list-returns-in_err-array-clause-memory
 read_list-returns-in_err-array-clause-memory g t c = λ k.
-    let s = entries g.R.Failures.memory c.args.body.now in
+    let s = entries g.R.Failures.device c.args.body.now in
     let vs = known c.args.body.now in
     let a = c.args.place.node in
     let b = c.args.place.buffer in
@@ -93,7 +93,7 @@ read_list-returns-in_err-array-clause-memory g t c = λ k.
 
 pub read_list-returns-clause-memory : goal.read_list-returns-clause-memory
 read_list-returns-clause-memory g t c = λ k.
-    let s = entries g.R.Failures.memory c.args.body.now in
+    let s = entries g.R.Failures.device c.args.body.now in
     let vs = known c.args.body.now in
     let a = c.args.place.node in
     let b = c.args.place.buffer in
@@ -116,7 +116,7 @@ read_list-returns-clause-memory g t c = λ k.
 
 pub read_fields-returns-in_err-column-clause-memory : goal.read_fields-returns-in_err-column-clause-memory
 read_fields-returns-in_err-column-clause-memory g t c = λ k.
-    let s = entries g.R.Failures.memory c.args.body.now in
+    let s = entries g.R.Failures.device c.args.body.now in
     let vs = known c.args.body.now in
     let fs = c.args.fields.now in
     let i = c.loop-field.field-index in
@@ -143,7 +143,7 @@ read_fields-returns-in_err-column-clause-memory g t c = λ k.
 
 pub read_fields-returns-then-len-rows-clause-memory : goal.read_fields-returns-then-len-rows-clause-memory
 read_fields-returns-then-len-rows-clause-memory g t c = λ k h.
-    let s = entries g.R.Failures.memory c.args.body.now in
+    let s = entries g.R.Failures.device c.args.body.now in
     let vs = known c.args.body.now in
     let fs = c.args.fields.now in
     let i = c.loop-field.field-index in
@@ -165,7 +165,7 @@ read_fields-returns-then-len-rows-clause-memory g t c = λ k h.
 
 pub read_fields-loop-field-preserved : goal.read_fields-loop-field-preserved
 read_fields-loop-field-preserved g t c =
-    let s = entries g.R.Failures.memory c.args.body.now in
+    let s = entries g.R.Failures.device c.args.body.now in
     let vs = known c.args.body.now in
     let fs = c.args.fields.now in
     let i = c.loop-field.field-index in
@@ -198,6 +198,7 @@ read_fields-loop-field-preserved g t c =
     record {
       places = left_more x all rest rest' kind c.args.start p q more c.loop-field.invariant.places next;
       stands = c.in_ok-column.ensures.step.stands;
+      names = c.in_ok-column.ensures.step.names ∙ c.loop-field.invariant.names;
       monotone = omega (arith, c.in_ok-column.ensures.step.monotone);
       done = c.in_ok-column.ensures.step.told ∙ c.loop-field.invariant.done;
       given = omega (arith, e1, e2, e3, c.in_ok-column.ensures.step.bounded, c.loop-field.invariant.given);
@@ -211,12 +212,12 @@ read_fields-loop-field-preserved g t c =
           subst (λ (ys : List Layout). SoFar s vs all rest' (fields_view fs) (fields_view (drop (i + 1) fs)) c.args.start q limit c.args.rows ys)
           (sym (ap (map layout_of) c.in_ok-push.ensures.items ∙ map-append layout_of c.loop-field.columns.items (c.in_ok-column.column ∷ [])))
           (so_more x s vs all rest rest' kind (field_view f) (fields_view fs) (fields_view (drop i fs)) (fields_view (drop (i + 1) fs)) c.args.start p q limit c.args.rows xs
-          (extra_is g.R.Failures.memory c.args.body.now) more (fields_left fs i f inside c.field-item.is) next (c.loop-field.invariant.content k) y read (sym c.len.ensures.len ∙ c.if-len-rows.false));
+          (extra_is g.R.Failures.device c.args.body.now) more (fields_left fs i f inside c.field-item.is) next (c.loop-field.invariant.content k) y read (sym c.len.ensures.len ∙ c.if-len-rows.false));
     }
 
 pub read_fields-returns-clause-memory : goal.read_fields-returns-clause-memory
 read_fields-returns-clause-memory g t c = λ k.
-    let s = entries g.R.Failures.memory c.args.body.now in
+    let s = entries g.R.Failures.device c.args.body.now in
     let vs = known c.args.body.now in
     let fs = c.args.fields.now in
     let i = c.loop-field.field-index in
@@ -228,7 +229,7 @@ read_fields-returns-clause-memory g t c = λ k.
 
 pub read_struct-returns-in_err-array-clause-memory : goal.read_struct-returns-in_err-array-clause-memory
 read_struct-returns-in_err-array-clause-memory g t c = λ k.
-    let s = entries g.R.Failures.memory c.args.body.now in
+    let s = entries g.R.Failures.device c.args.body.now in
     let vs = known c.args.body.now in
     let a = c.args.place.node in
     let b = c.args.place.buffer in
@@ -258,7 +259,7 @@ read_struct-returns-in_err-array-clause-memory g t c = λ k.
 
 pub read_map-returns-in_err-array-clause-memory : goal.read_map-returns-in_err-array-clause-memory
 read_map-returns-in_err-array-clause-memory g t c = λ k.
-    let s = entries g.R.Failures.memory c.args.body.now in
+    let s = entries g.R.Failures.device c.args.body.now in
     let vs = known c.args.body.now in
     let a = c.args.start.node in
     let b = c.args.start.buffer in
@@ -289,7 +290,7 @@ read_map-returns-in_err-array-clause-memory g t c = λ k.
 
 pub read_map-returns-clause-memory : goal.read_map-returns-clause-memory
 read_map-returns-clause-memory g t c = λ k.
-    let s = entries g.R.Failures.memory c.args.body.now in
+    let s = entries g.R.Failures.device c.args.body.now in
     let vs = known c.args.body.now in
     let a = c.args.start.node in
     let b = c.args.start.buffer in
@@ -312,7 +313,7 @@ read_map-returns-clause-memory g t c = λ k.
 
 pub read_fixed_size_list-returns-in_err-array-clause-memory : goal.read_fixed_size_list-returns-in_err-array-clause-memory
 read_fixed_size_list-returns-in_err-array-clause-memory g t c = λ k.
-    let s = entries g.R.Failures.memory c.args.body.now in
+    let s = entries g.R.Failures.device c.args.body.now in
     let vs = known c.args.body.now in
     let a = c.args.start.node in
     let b = c.args.start.buffer in
@@ -325,7 +326,7 @@ read_fixed_size_list-returns-in_err-array-clause-memory g t c = λ k.
     let x = layout_of c.in_ok-child.child in
     let n = c.args.size in
     let most = c.times_limit-most.result in
-    let same = limit_same g.R.Failures.memory c.args.body.now limit n most c.times_limit-most.ensures in
+    let same = limit_same g.R.Failures.device c.args.body.now limit n most c.times_limit-most.ensures in
     let some : 0 < n = omega (arith, c.if-size-eq0.false) in
     let read = c.in_ok-head.ensures.memory k in
     let child : IsWell s kind (a + 1) (b + 1) most × (x ≡ array_at s vs kind ut (a + 1) (b + 1) most) =
@@ -346,7 +347,7 @@ read_fixed_size_list-returns-in_err-array-clause-memory g t c = λ k.
 
 pub read_fixed_size_list-returns-clause-memory : goal.read_fixed_size_list-returns-clause-memory
 read_fixed_size_list-returns-clause-memory g t c = λ k.
-    let s = entries g.R.Failures.memory c.args.body.now in
+    let s = entries g.R.Failures.device c.args.body.now in
     let vs = known c.args.body.now in
     let a = c.args.start.node in
     let b = c.args.start.buffer in
@@ -359,7 +360,7 @@ read_fixed_size_list-returns-clause-memory g t c = λ k.
     let x = layout_of c.in_ok-child.child in
     let n = c.args.size in
     let most = c.times_limit-most.result in
-    let same = limit_same g.R.Failures.memory c.args.body.now limit n most c.times_limit-most.ensures in
+    let same = limit_same g.R.Failures.device c.args.body.now limit n most c.times_limit-most.ensures in
     let some : 0 < n = omega (arith, c.if-size-eq0.false) in
     let read = c.in_ok-head.ensures.memory k in
     let child : IsWell s kind (a + 1) (b + 1) most × (x ≡ array_at s vs kind ut (a + 1) (b + 1) most) =
@@ -373,7 +374,7 @@ read_fixed_size_list-returns-clause-memory g t c = λ k.
 
 pub read_fixed_size_list-returns-in_err-child-clause-memory : goal.read_fixed_size_list-returns-in_err-child-clause-memory
 read_fixed_size_list-returns-in_err-child-clause-memory g t c = λ k.
-    let s = entries g.R.Failures.memory c.args.body.now in
+    let s = entries g.R.Failures.device c.args.body.now in
     let vs = known c.args.body.now in
     let a = c.args.start.node in
     let b = c.args.start.buffer in
@@ -385,7 +386,7 @@ read_fixed_size_list-returns-in_err-child-clause-memory g t c = λ k.
     let head = c.in_ok-head.head in
     let n = c.args.size in
     let most = c.times_limit-most.result in
-    let same = limit_same g.R.Failures.memory c.args.body.now limit n most c.times_limit-most.ensures in
+    let same = limit_same g.R.Failures.device c.args.body.now limit n most c.times_limit-most.ensures in
     let some : 0 < n = omega (arith, c.if-size-eq0.false) in
     let read = c.in_ok-head.ensures.memory k in
     let kind' = kind_of ut c.child_of-child_id.result.0 (all_ids_view c.child_of-child_id.result.1.now) in
@@ -400,7 +401,7 @@ read_fixed_size_list-returns-in_err-child-clause-memory g t c = λ k.
 
 pub read_as-returns-in-Map-clause-memory : goal.read_as-returns-in-Map-clause-memory
 read_as-returns-in-Map-clause-memory g t c = λ k.
-    let s = entries g.R.Failures.memory c.args.body.now in
+    let s = entries g.R.Failures.device c.args.body.now in
     let vs = known c.args.body.now in
     let d = c.args.data_type.now in
     let is = all_ids_view c.args.ids.now in
@@ -415,7 +416,7 @@ read_as-returns-in-Map-clause-memory g t c = λ k.
 
 pub read_as-returns-in-List-clause-memory : goal.read_as-returns-in-List-clause-memory
 read_as-returns-in-List-clause-memory g t c = λ k.
-    let s = entries g.R.Failures.memory c.args.body.now in
+    let s = entries g.R.Failures.device c.args.body.now in
     let vs = known c.args.body.now in
     let d = c.args.data_type.now in
     let is = all_ids_view c.args.ids.now in
@@ -430,7 +431,7 @@ read_as-returns-in-List-clause-memory g t c = λ k.
 
 pub read_as-returns-in-LargeList-clause-memory : goal.read_as-returns-in-LargeList-clause-memory
 read_as-returns-in-LargeList-clause-memory g t c = λ k.
-    let s = entries g.R.Failures.memory c.args.body.now in
+    let s = entries g.R.Failures.device c.args.body.now in
     let vs = known c.args.body.now in
     let d = c.args.data_type.now in
     let is = all_ids_view c.args.ids.now in
@@ -445,7 +446,7 @@ read_as-returns-in-LargeList-clause-memory g t c = λ k.
 
 pub read_as-returns-in-FixedSizeList-clause-memory : goal.read_as-returns-in-FixedSizeList-clause-memory
 read_as-returns-in-FixedSizeList-clause-memory g t c = λ k.
-    let s = entries g.R.Failures.memory c.args.body.now in
+    let s = entries g.R.Failures.device c.args.body.now in
     let vs = known c.args.body.now in
     let d = c.args.data_type.now in
     let is = all_ids_view c.args.ids.now in
@@ -460,7 +461,7 @@ read_as-returns-in-FixedSizeList-clause-memory g t c = λ k.
 
 pub read_as-returns-in-Extension-clause-memory : goal.read_as-returns-in-Extension-clause-memory
 read_as-returns-in-Extension-clause-memory g t c = λ k.
-    let s = entries g.R.Failures.memory c.args.body.now in
+    let s = entries g.R.Failures.device c.args.body.now in
     let vs = known c.args.body.now in
     let d = c.args.data_type.now in
     let is = all_ids_view c.args.ids.now in
@@ -476,7 +477,7 @@ read_as-returns-in-Extension-clause-memory g t c = λ k.
 
 pub read_whole_fields-returns-in_err-column-clause-memory : goal.read_whole_fields-returns-in_err-column-clause-memory
 read_whole_fields-returns-in_err-column-clause-memory g t c = λ k.
-    let s = entries g.R.Failures.memory c.args.body.now in
+    let s = entries g.R.Failures.device c.args.body.now in
     let vs = known c.args.body.now in
     let fs = c.args.fields.now in
     let i = c.loop-field.field-index in
@@ -501,7 +502,7 @@ read_whole_fields-returns-in_err-column-clause-memory g t c = λ k.
 
 pub read_whole_fields-loop-field-preserved : goal.read_whole_fields-loop-field-preserved
 read_whole_fields-loop-field-preserved g t c =
-    let s = entries g.R.Failures.memory c.args.body.now in
+    let s = entries g.R.Failures.device c.args.body.now in
     let vs = known c.args.body.now in
     let fs = c.args.fields.now in
     let i = c.loop-field.field-index in
@@ -533,6 +534,7 @@ read_whole_fields-loop-field-preserved g t c =
     record {
       places = left_more x all rest rest' kind c.args.start p q more c.loop-field.invariant.places next;
       stands = c.in_ok-column.ensures.step.stands;
+      names = c.in_ok-column.ensures.step.names ∙ c.loop-field.invariant.names;
       monotone = omega (arith, c.in_ok-column.ensures.step.monotone);
       done = c.in_ok-column.ensures.step.told ∙ c.loop-field.invariant.done;
       given = omega (arith, e1, e2, e3, c.in_ok-column.ensures.step.bounded, c.loop-field.invariant.given);
@@ -546,12 +548,12 @@ read_whole_fields-loop-field-preserved g t c =
           subst (λ (ys : List Layout). WholeSoFar s vs all rest' (fields_view fs) (fields_view (drop (i + 1) fs)) c.args.start q ys)
           (sym (ap (map layout_of) c.in_ok-push.ensures.items ∙ map-append layout_of c.loop-field.columns.items (c.in_ok-column.column ∷ [])))
           (whole_more x s vs all rest rest' kind (field_view f) (fields_view fs) (fields_view (drop i fs)) (fields_view (drop (i + 1) fs)) c.args.start p q xs
-          (extra_is g.R.Failures.memory c.args.body.now) more (fields_left fs i f inside c.field-item.is) next (c.loop-field.invariant.content k) y read);
+          (extra_is g.R.Failures.device c.args.body.now) more (fields_left fs i f inside c.field-item.is) next (c.loop-field.invariant.content k) y read);
     }
 
 pub read_whole_fields-returns-clause-memory : goal.read_whole_fields-returns-clause-memory
 read_whole_fields-returns-clause-memory g t c = λ k.
-    let s = entries g.R.Failures.memory c.args.body.now in
+    let s = entries g.R.Failures.device c.args.body.now in
     let vs = known c.args.body.now in
     let fs = c.args.fields.now in
     let i = c.loop-field.field-index in
@@ -563,7 +565,7 @@ read_whole_fields-returns-clause-memory g t c = λ k.
 
 pub read_union-returns-in_err-types-clause-memory : goal.read_union-returns-in_err-types-clause-memory
 read_union-returns-in_err-types-clause-memory g t c = λ k.
-    let s = entries g.R.Failures.memory c.args.body.now in
+    let s = entries g.R.Failures.device c.args.body.now in
     let vs = known c.args.body.now in
     let a = c.args.place.node in
     let b = c.args.place.buffer in
@@ -574,7 +576,7 @@ read_union-returns-in_err-types-clause-memory g t c = λ k.
     let ts = kinds_of fs is in
     let u = type_view c.args.own.now in
     let t = b + c.args.body.now.extra in
-    let at : t ≡ b + s.extra = ap (λ n. b + n) (extra_is g.R.Failures.memory c.args.body.now) in
+    let at : t ≡ b + s.extra = ap (λ n. b + n) (extra_is g.R.Failures.device c.args.body.now) in
     let well : Type 0 = IsWell s (union_kind c.args.mode ids ts) a b limit in
     let fault = c.in_err-types.field-0.0 in
     let denied : OwnFault fault (well → ⊥) =
@@ -584,7 +586,7 @@ read_union-returns-in_err-types-clause-memory g t c = λ k.
 
 pub read_union-returns-in_err-columns-in-Sparse-clause-memory : goal.read_union-returns-in_err-columns-in-Sparse-clause-memory
 read_union-returns-in_err-columns-in-Sparse-clause-memory g t c = λ k.
-    let s = entries g.R.Failures.memory c.args.body.now in
+    let s = entries g.R.Failures.device c.args.body.now in
     let vs = known c.args.body.now in
     let a = c.args.place.node in
     let b = c.args.place.buffer in
@@ -595,7 +597,7 @@ read_union-returns-in_err-columns-in-Sparse-clause-memory g t c = λ k.
     let ts = kinds_of fs is in
     let u = type_view c.args.own.now in
     let t = b + c.args.body.now.extra in
-    let at : t ≡ b + s.extra = ap (λ n. b + n) (extra_is g.R.Failures.memory c.args.body.now) in
+    let at : t ≡ b + s.extra = ap (λ n. b + n) (extra_is g.R.Failures.device c.args.body.now) in
     let zs = c.in_ok-types.types in
     let head = c.in_ok-types.ensures.memory k in
     let len : c.len-rows.result ≡ length zs = c.len-rows.ensures in
@@ -612,7 +614,7 @@ read_union-returns-in_err-columns-in-Sparse-clause-memory g t c = λ k.
 
 pub read_union-returns-in_err-array-in-Sparse-clause-memory : goal.read_union-returns-in_err-array-in-Sparse-clause-memory
 read_union-returns-in_err-array-in-Sparse-clause-memory g t c = λ k.
-    let s = entries g.R.Failures.memory c.args.body.now in
+    let s = entries g.R.Failures.device c.args.body.now in
     let vs = known c.args.body.now in
     let a = c.args.place.node in
     let b = c.args.place.buffer in
@@ -623,7 +625,7 @@ read_union-returns-in_err-array-in-Sparse-clause-memory g t c = λ k.
     let ts = kinds_of fs is in
     let u = type_view c.args.own.now in
     let t = b + c.args.body.now.extra in
-    let at : t ≡ b + s.extra = ap (λ n. b + n) (extra_is g.R.Failures.memory c.args.body.now) in
+    let at : t ≡ b + s.extra = ap (λ n. b + n) (extra_is g.R.Failures.device c.args.body.now) in
     let zs = c.in_ok-types.types in
     let head = c.in_ok-types.ensures.memory k in
     let len : c.len-rows.result ≡ length zs = c.len-rows.ensures in
@@ -645,7 +647,7 @@ read_union-returns-in_err-array-in-Sparse-clause-memory g t c = λ k.
 
 pub read_union-returns-in_ok-array-in-Sparse-clause-memory : goal.read_union-returns-in_ok-array-in-Sparse-clause-memory
 read_union-returns-in_ok-array-in-Sparse-clause-memory g t c = λ k.
-    let s = entries g.R.Failures.memory c.args.body.now in
+    let s = entries g.R.Failures.device c.args.body.now in
     let vs = known c.args.body.now in
     let a = c.args.place.node in
     let b = c.args.place.buffer in
@@ -656,7 +658,7 @@ read_union-returns-in_ok-array-in-Sparse-clause-memory g t c = λ k.
     let ts = kinds_of fs is in
     let u = type_view c.args.own.now in
     let t = b + c.args.body.now.extra in
-    let at : t ≡ b + s.extra = ap (λ n. b + n) (extra_is g.R.Failures.memory c.args.body.now) in
+    let at : t ≡ b + s.extra = ap (λ n. b + n) (extra_is g.R.Failures.device c.args.body.now) in
     let zs = c.in_ok-types.types in
     let head = c.in_ok-types.ensures.memory k in
     let len : c.len-rows.result ≡ length zs = c.len-rows.ensures in
@@ -670,7 +672,7 @@ read_union-returns-in_ok-array-in-Sparse-clause-memory g t c = λ k.
 
 pub read_union-returns-in_err-places-in-Dense-clause-memory : goal.read_union-returns-in_err-places-in-Dense-clause-memory
 read_union-returns-in_err-places-in-Dense-clause-memory g t c = λ k.
-    let s = entries g.R.Failures.memory c.args.body.now in
+    let s = entries g.R.Failures.device c.args.body.now in
     let vs = known c.args.body.now in
     let a = c.args.place.node in
     let b = c.args.place.buffer in
@@ -681,7 +683,7 @@ read_union-returns-in_err-places-in-Dense-clause-memory g t c = λ k.
     let ts = kinds_of fs is in
     let u = type_view c.args.own.now in
     let t = b + c.args.body.now.extra in
-    let at : t ≡ b + s.extra = ap (λ n. b + n) (extra_is g.R.Failures.memory c.args.body.now) in
+    let at : t ≡ b + s.extra = ap (λ n. b + n) (extra_is g.R.Failures.device c.args.body.now) in
     let zs = c.in_ok-types.types in
     let head = c.in_ok-types.ensures.memory k in
     let len : c.len-rows.result ≡ length zs = c.len-rows.ensures in
@@ -697,7 +699,7 @@ read_union-returns-in_err-places-in-Dense-clause-memory g t c = λ k.
 
 pub read_union-returns-in_err-columns-in-Dense-clause-memory : goal.read_union-returns-in_err-columns-in-Dense-clause-memory
 read_union-returns-in_err-columns-in-Dense-clause-memory g t c = λ k.
-    let s = entries g.R.Failures.memory c.args.body.now in
+    let s = entries g.R.Failures.device c.args.body.now in
     let vs = known c.args.body.now in
     let a = c.args.place.node in
     let b = c.args.place.buffer in
@@ -708,7 +710,7 @@ read_union-returns-in_err-columns-in-Dense-clause-memory g t c = λ k.
     let ts = kinds_of fs is in
     let u = type_view c.args.own.now in
     let t = b + c.args.body.now.extra in
-    let at : t ≡ b + s.extra = ap (λ n. b + n) (extra_is g.R.Failures.memory c.args.body.now) in
+    let at : t ≡ b + s.extra = ap (λ n. b + n) (extra_is g.R.Failures.device c.args.body.now) in
     let well : Type 0 = IsWell s (union_kind Dense ids ts) a b limit in
     let fault = c.in_err-columns-in-Dense.field-0.0 in
     let denied : OwnFault fault (well → ⊥) =
@@ -721,7 +723,7 @@ read_union-returns-in_err-columns-in-Dense-clause-memory g t c = λ k.
 
 pub read_union-returns-in_err-array-in-Dense-clause-memory : goal.read_union-returns-in_err-array-in-Dense-clause-memory
 read_union-returns-in_err-array-in-Dense-clause-memory g t c = λ k.
-    let s = entries g.R.Failures.memory c.args.body.now in
+    let s = entries g.R.Failures.device c.args.body.now in
     let vs = known c.args.body.now in
     let a = c.args.place.node in
     let b = c.args.place.buffer in
@@ -732,7 +734,7 @@ read_union-returns-in_err-array-in-Dense-clause-memory g t c = λ k.
     let ts = kinds_of fs is in
     let u = type_view c.args.own.now in
     let t = b + c.args.body.now.extra in
-    let at : t ≡ b + s.extra = ap (λ n. b + n) (extra_is g.R.Failures.memory c.args.body.now) in
+    let at : t ≡ b + s.extra = ap (λ n. b + n) (extra_is g.R.Failures.device c.args.body.now) in
     let zs = c.in_ok-types.types in
     let head = c.in_ok-types.ensures.memory k in
     let len : c.len-rows.result ≡ length zs = c.len-rows.ensures in
@@ -756,7 +758,7 @@ read_union-returns-in_err-array-in-Dense-clause-memory g t c = λ k.
 
 pub read_union-returns-in_ok-array-in-Dense-clause-memory : goal.read_union-returns-in_ok-array-in-Dense-clause-memory
 read_union-returns-in_ok-array-in-Dense-clause-memory g t c = λ k.
-    let s = entries g.R.Failures.memory c.args.body.now in
+    let s = entries g.R.Failures.device c.args.body.now in
     let vs = known c.args.body.now in
     let a = c.args.place.node in
     let b = c.args.place.buffer in
@@ -767,7 +769,7 @@ read_union-returns-in_ok-array-in-Dense-clause-memory g t c = λ k.
     let ts = kinds_of fs is in
     let u = type_view c.args.own.now in
     let t = b + c.args.body.now.extra in
-    let at : t ≡ b + s.extra = ap (λ n. b + n) (extra_is g.R.Failures.memory c.args.body.now) in
+    let at : t ≡ b + s.extra = ap (λ n. b + n) (extra_is g.R.Failures.device c.args.body.now) in
     let zs = c.in_ok-types.types in
     let head = c.in_ok-types.ensures.memory k in
     let len : c.len-rows.result ≡ length zs = c.len-rows.ensures in
@@ -799,7 +801,7 @@ read_as-read_union-requires g t c =
 
 pub read_list-returns-clause-held : goal.read_list-returns-clause-held
 read_list-returns-clause-held g t c =
-    let s = entries g.R.Failures.memory c.args.body.now in
+    let s = entries g.R.Failures.device c.args.body.now in
     let extra = c.args.body.now.extra in
     let b = c.args.place.buffer in
     let u = type_view c.args.own.now in
@@ -813,7 +815,7 @@ read_list-returns-clause-held g t c =
 
 pub read_map-returns-clause-held : goal.read_map-returns-clause-held
 read_map-returns-clause-held g t c =
-    let s = entries g.R.Failures.memory c.args.body.now in
+    let s = entries g.R.Failures.device c.args.body.now in
     let extra = c.args.body.now.extra in
     let b = c.args.start.buffer in
     let u = type_view c.args.own.now in
@@ -826,7 +828,7 @@ read_map-returns-clause-held g t c =
 
 pub read_fixed_size_list-returns-clause-held : goal.read_fixed_size_list-returns-clause-held
 read_fixed_size_list-returns-clause-held g t c =
-    let s = entries g.R.Failures.memory c.args.body.now in
+    let s = entries g.R.Failures.device c.args.body.now in
     let extra = c.args.body.now.extra in
     let b = c.args.start.buffer in
     let u = type_view c.args.own.now in
@@ -839,7 +841,7 @@ read_fixed_size_list-returns-clause-held g t c =
 
 pub read_struct-returns-clause-held : goal.read_struct-returns-clause-held
 read_struct-returns-clause-held g t c =
-    let s = entries g.R.Failures.memory c.args.body.now in
+    let s = entries g.R.Failures.device c.args.body.now in
     let extra = c.args.body.now.extra in
     let b = c.args.place.buffer in
     let u = type_view c.args.own.now in
@@ -850,7 +852,7 @@ read_struct-returns-clause-held g t c =
 
 pub read_union-returns-in_ok-array-in-Sparse-clause-held : goal.read_union-returns-in_ok-array-in-Sparse-clause-held
 read_union-returns-in_ok-array-in-Sparse-clause-held g t c =
-    let s = entries g.R.Failures.memory c.args.body.now in
+    let s = entries g.R.Failures.device c.args.body.now in
     let extra = c.args.body.now.extra in
     let b = c.args.place.buffer in
     let u = type_view c.args.own.now in
@@ -863,7 +865,7 @@ read_union-returns-in_ok-array-in-Sparse-clause-held g t c =
 
 pub read_union-returns-in_ok-array-in-Dense-clause-held : goal.read_union-returns-in_ok-array-in-Dense-clause-held
 read_union-returns-in_ok-array-in-Dense-clause-held g t c =
-    let s = entries g.R.Failures.memory c.args.body.now in
+    let s = entries g.R.Failures.device c.args.body.now in
     let extra = c.args.body.now.extra in
     let b = c.args.place.buffer in
     let u = type_view c.args.own.now in
@@ -877,7 +879,7 @@ read_union-returns-in_ok-array-in-Dense-clause-held g t c =
 
 pub read_as-returns-in-Map-clause-held : goal.read_as-returns-in-Map-clause-held
 read_as-returns-in-Map-clause-held g t c =
-    let s = entries g.R.Failures.memory c.args.body.now in
+    let s = entries g.R.Failures.device c.args.body.now in
     let d = c.args.data_type.now in
     let is = all_ids_view c.args.ids.now in
     let b = c.args.place.buffer in
@@ -888,7 +890,7 @@ read_as-returns-in-Map-clause-held g t c =
 
 pub read_as-returns-in-List-clause-held : goal.read_as-returns-in-List-clause-held
 read_as-returns-in-List-clause-held g t c =
-    let s = entries g.R.Failures.memory c.args.body.now in
+    let s = entries g.R.Failures.device c.args.body.now in
     let d = c.args.data_type.now in
     let is = all_ids_view c.args.ids.now in
     let b = c.args.place.buffer in
@@ -899,7 +901,7 @@ read_as-returns-in-List-clause-held g t c =
 
 pub read_as-returns-in-LargeList-clause-held : goal.read_as-returns-in-LargeList-clause-held
 read_as-returns-in-LargeList-clause-held g t c =
-    let s = entries g.R.Failures.memory c.args.body.now in
+    let s = entries g.R.Failures.device c.args.body.now in
     let d = c.args.data_type.now in
     let is = all_ids_view c.args.ids.now in
     let b = c.args.place.buffer in
@@ -910,7 +912,7 @@ read_as-returns-in-LargeList-clause-held g t c =
 
 pub read_as-returns-in-FixedSizeList-clause-held : goal.read_as-returns-in-FixedSizeList-clause-held
 read_as-returns-in-FixedSizeList-clause-held g t c =
-    let s = entries g.R.Failures.memory c.args.body.now in
+    let s = entries g.R.Failures.device c.args.body.now in
     let d = c.args.data_type.now in
     let is = all_ids_view c.args.ids.now in
     let b = c.args.place.buffer in
@@ -921,7 +923,7 @@ read_as-returns-in-FixedSizeList-clause-held g t c =
 
 pub read_as-returns-in-Extension-clause-held : goal.read_as-returns-in-Extension-clause-held
 read_as-returns-in-Extension-clause-held g t c =
-    let s = entries g.R.Failures.memory c.args.body.now in
+    let s = entries g.R.Failures.device c.args.body.now in
     let d = c.args.data_type.now in
     let is = all_ids_view c.args.ids.now in
     let b = c.args.place.buffer in

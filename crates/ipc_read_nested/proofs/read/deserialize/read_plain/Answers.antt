@@ -36,7 +36,7 @@ returns-in_err-array-clause-only g c =
 
 pub returns-in_err-array-clause-memory : goal.returns-in_err-array-clause-memory
 returns-in_err-array-clause-memory g c = λ k.
-    let s = entries g.R.Failures.memory c.args.body.now in
+    let s = entries g.R.Failures.device c.args.body.now in
     let a = c.args.place.node in
     let b = c.args.place.buffer in
     let own = type_view c.args.own.now in
@@ -67,7 +67,7 @@ returns-clause-next g c =
 
 pub returns-clause-memory : goal.returns-clause-memory
 returns-clause-memory g c = λ k.
-    let s = entries g.R.Failures.memory c.args.body.now in
+    let s = entries g.R.Failures.device c.args.body.now in
     let a = c.args.place.node in
     let b = c.args.place.buffer in
     let own = type_view c.args.own.now in
@@ -85,7 +85,7 @@ returns-clause-memory g c = λ k.
 
 pub returns-clause-held : goal.returns-clause-held
 returns-clause-held g c =
-    let s = entries g.R.Failures.memory c.args.body.now in
+    let s = entries g.R.Failures.device c.args.body.now in
     let own = type_view c.args.own.now in
     let t = type_view c.args.data_type.now in
     let same : kind_of t c.args.id (all_ids_view c.args.ids.now) ≡ flat_kind c.to_physical_type-physical_type.result (byte_size own) =

@@ -5,7 +5,7 @@ use Rattle.ipc_readers.proofs.read.frame.read_sized.Goals as goal
 pub returns-then-size-clause-gives : goal.returns-then-size-clause-gives
 returns-then-size-clause-gives g c = record {
   bytes = [];
-  gave = g.met.R.Reads.gives_nothing _;
+  gave = g.met.R.Reads.laws.nothing _;
   within = omega arith;
   holds = λ ys _. let below : 2 ^ 31 ≤ c.args.size = omega (arith, c.if-size.true) in (sized_negative c.args.size ys below, fault_negative c.args.size below);
 }
@@ -13,7 +13,7 @@ returns-then-size-clause-gives g c = record {
 pub returns-then-size-eq0-clause-gives : goal.returns-then-size-eq0-clause-gives
 returns-then-size-eq0-clause-gives g c = record {
   bytes = [];
-  gave = g.met.R.Reads.gives_nothing _;
+  gave = g.met.R.Reads.laws.nothing _;
   within = omega arith;
   holds = λ ys _. rw (c.if-size-eq0.true, sized_mark) (refl, refl);
 }

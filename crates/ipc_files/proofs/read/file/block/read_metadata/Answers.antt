@@ -9,42 +9,42 @@ use Rattle.ipc_files.proofs.read.file.block.read_metadata.Goals as goal
 
 pub returns-then-length-clause-memory : goal.returns-then-length-clause-memory
 returns-then-length-clause-memory g c = λ k.
-    let there = gone-to (g.R.Failures.memory c.args.reader.now) (g.R.Failures.memory c.seek_to.new.self) c.args.place (c.in_ok-seek_to.ensures.memory k) in
-    negative-sized _ c.in_ok-length.length (after (g.R.Failures.memory c.read_prefix.new.reader)) (ap frame (sym there) ∙ c.in_ok-length.ensures.memory k) (omega (arith, c.if-length.true))
+    let there = gone-to (g.R.Failures.device.memory c.args.reader.now) (g.R.Failures.device.memory c.seek_to.new.self) c.args.place (c.in_ok-seek_to.ensures.memory k) in
+    negative-sized _ c.in_ok-length.length (after (g.R.Failures.device.memory c.read_prefix.new.reader)) (ap frame (sym there) ∙ c.in_ok-length.ensures.memory k) (omega (arith, c.if-length.true))
 
 pub returns-in_err-read_into-clause-memory : goal.returns-in_err-read_into-clause-memory
 returns-in_err-read_into-clause-memory g c = λ k.
     let e = c.in_err-read_into.field-0.0 in
     let is : c.from_residual-in_err-read_into.result ≡ Err e = search rules in
-    let there = gone-to (g.R.Failures.memory c.args.reader.now) (g.R.Failures.memory c.seek_to.new.self) c.args.place (c.in_ok-seek_to.ensures.memory k) in
-    rw is (refused-sized _ c.in_ok-length.length (after (g.R.Failures.memory c.read_prefix.new.reader)) e (ap frame (sym there) ∙ c.in_ok-length.ensures.memory k)
+    let there = gone-to (g.R.Failures.device.memory c.args.reader.now) (g.R.Failures.device.memory c.seek_to.new.self) c.args.place (c.in_ok-seek_to.ensures.memory k) in
+    rw is (refused-sized _ c.in_ok-length.length (after (g.R.Failures.device.memory c.read_prefix.new.reader)) e (ap frame (sym there) ∙ c.in_ok-length.ensures.memory k)
     (omega (arith, c.if-length.false)) (c.in_err-read_into.ensures.memory k))
 
 pub returns-clause-memory : goal.returns-clause-memory
 returns-clause-memory g c = λ k.
-    let there = gone-to (g.R.Failures.memory c.args.reader.now) (g.R.Failures.memory c.seek_to.new.self) c.args.place (c.in_ok-seek_to.ensures.memory k) in
+    let there = gone-to (g.R.Failures.device.memory c.args.reader.now) (g.R.Failures.device.memory c.seek_to.new.self) c.args.place (c.in_ok-seek_to.ensures.memory k) in
     let read = c.in_ok-read_into.ensures.memory k in
-    read-sized _ c.in_ok-length.length (after (g.R.Failures.memory c.read_prefix.new.reader)) c.read_into.new.bytes.items (ap frame (sym there) ∙ c.in_ok-length.ensures.memory k)
+    read-sized _ c.in_ok-length.length (after (g.R.Failures.device.memory c.read_prefix.new.reader)) c.read_into.new.bytes.items (ap frame (sym there) ∙ c.in_ok-length.ensures.memory k)
     (omega (arith, c.if-length.false)) read.0 read.1
 
 pub returns-in_err-length-clause-reason : goal.returns-in_err-length-clause-reason
 returns-in_err-length-clause-reason g c = λ k.
     let e = c.in_err-length.field-0.0 in
     let is : c.from_residual-in_err-length.result ≡ Err e = search rules in
-    let there = gone-to (g.R.Failures.memory c.args.reader.now) (g.R.Failures.memory c.seek_to.new.self) c.args.place (c.in_ok-seek_to.ensures.memory k) in
+    let there = gone-to (g.R.Failures.device.memory c.args.reader.now) (g.R.Failures.device.memory c.seek_to.new.self) c.args.place (c.in_ok-seek_to.ensures.memory k) in
     rw is (subst (λ (xs : List ℕ). OwnFault e (e ≡ frame_fault c.args.negative (prefix_of xs))) there
-    (no-prefix c.args.negative (prefix_of (after (g.R.Failures.memory c.seek_to.new.self))) e c.in_err-length.ensures.only (c.in_err-length.ensures.number k)))
+    (no-prefix c.args.negative (prefix_of (after (g.R.Failures.device.memory c.seek_to.new.self))) e c.in_err-length.ensures.only (c.in_err-length.ensures.number k)))
 
 pub returns-then-length-clause-reason : goal.returns-then-length-clause-reason
 returns-then-length-clause-reason g c = λ k.
-    let there = gone-to (g.R.Failures.memory c.args.reader.now) (g.R.Failures.memory c.seek_to.new.self) c.args.place (c.in_ok-seek_to.ensures.memory k) in
+    let there = gone-to (g.R.Failures.device.memory c.args.reader.now) (g.R.Failures.device.memory c.seek_to.new.self) c.args.place (c.in_ok-seek_to.ensures.memory k) in
     length-below-0 c.args.negative _ c.in_ok-length.length (ap prefix_of (sym there) ∙ c.in_ok-length.ensures.number k) (omega (arith, c.if-length.true))
 
 pub returns-in_err-read_into-clause-reason : goal.returns-in_err-read_into-clause-reason
 returns-in_err-read_into-clause-reason g c = λ k.
     let e = c.in_err-read_into.field-0.0 in
     let is : c.from_residual-in_err-read_into.result ≡ Err e = search rules in
-    let there = gone-to (g.R.Failures.memory c.args.reader.now) (g.R.Failures.memory c.seek_to.new.self) c.args.place (c.in_ok-seek_to.ensures.memory k) in
+    let there = gone-to (g.R.Failures.device.memory c.args.reader.now) (g.R.Failures.device.memory c.seek_to.new.self) c.args.place (c.in_ok-seek_to.ensures.memory k) in
     rw is (less-than-stated c.args.negative _ c.in_ok-length.length e (ap prefix_of (sym there) ∙ c.in_ok-length.ensures.number k)
     (omega (arith, c.if-length.false)) c.in_err-read_into.ensures.only)
 
@@ -63,7 +63,7 @@ returns-in_err-read_into-clause-given g c =
       c.in_ok-length.length,
       omega (arith, c.if-length.false),
       λ k.
-          let there = gone-to (g.R.Failures.memory c.args.reader.now) (g.R.Failures.memory c.seek_to.new.self) c.args.place (c.in_ok-seek_to.ensures.memory k) in
+          let there = gone-to (g.R.Failures.device.memory c.args.reader.now) (g.R.Failures.device.memory c.seek_to.new.self) c.args.place (c.in_ok-seek_to.ensures.memory k) in
           ap prefix_of (sym there) ∙ c.in_ok-length.ensures.number k,
       omega (arith, c.in_ok-seek_to.ensures.given, c.in_ok-length.ensures.given, c.in_err-read_into.ensures.given),
     ))

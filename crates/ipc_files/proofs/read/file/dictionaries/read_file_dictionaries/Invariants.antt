@@ -11,16 +11,17 @@ use Rattle.ipc_files.proofs.read.file.dictionaries.read_file_dictionaries.Given 
 
 abbrev pub invariant-loop-block : goal.invariant-loop-block
 invariant-loop-block g l = record {
-  monotone : g.R.Failures.failures l.fn.reader ≤ g.R.Failures.failures l.reader;
-  told : g.R.Failures.failures l.reader ≡ g.R.Failures.failures l.fn.reader;
+  monotone : g.R.Failures.device.failures l.fn.reader ≤ g.R.Failures.device.failures l.reader;
+  told : g.R.Failures.device.failures l.reader ≡ g.R.Failures.device.failures l.fn.reader;
   idle : l.scratch ≡ l.fn.scratch;
-  whole : IsTrue g.R.Failures.still → (g.R.Failures.memory l.reader).whole ≡ (g.R.Failures.memory l.fn.reader).whole;
-  given : GivenFor g.R.Failures.known (file_seen l.metadata).schema (g.R.Failures.memory l.fn.reader).whole (take l.block-index l.blocks) (g.R.Failures.given l.fn.reader) (g.R.Failures.given l.reader);
-  held : EachListed g.R.Failures.known l.metadata.size (file_seen l.metadata).schema (g.R.Failures.memory l.fn.reader).whole (take l.block-index l.blocks) (λ id. array_under l.dictionaries id);
-  known : IsTrue g.R.Failures.known → AreAlike
-      (dictionaries_after (file_seen l.metadata) (all_of (g.R.Failures.memory l.fn.reader).whole) (known_dictionaries l.dictionaries) (drop l.block-index l.blocks))
-      (dictionaries_after (file_seen l.metadata) (all_of (g.R.Failures.memory l.fn.reader).whole) [] l.blocks);
-  reason : IsTrue g.R.Failures.known → (e : Fault)
-      → DictionariesReason (file_seen l.metadata) (g.R.Failures.memory l.fn.reader).whole (known_dictionaries l.dictionaries) (drop l.block-index l.blocks) e
-      → DictionariesReason (file_seen l.metadata) (g.R.Failures.memory l.fn.reader).whole [] l.blocks e;
+  whole : IsTrue g.R.Failures.device.is_read_only → (g.R.Failures.device.memory l.reader).whole ≡ (g.R.Failures.device.memory l.fn.reader).whole;
+  names : g.R.Failures.device.names l.reader ≡ g.R.Failures.device.names l.fn.reader;
+  given : GivenFor g.R.Failures.device.is_memory (file_seen l.metadata).schema (g.R.Failures.device.memory l.fn.reader).whole (take l.block-index l.blocks) (g.R.Failures.device.given l.fn.reader) (g.R.Failures.device.given l.reader);
+  held : EachListed g.R.Failures.device.is_memory l.metadata.size (file_seen l.metadata).schema (g.R.Failures.device.memory l.fn.reader).whole (take l.block-index l.blocks) (λ id. array_under l.dictionaries id);
+  known : IsTrue g.R.Failures.device.is_memory → AreAlike
+      (dictionaries_after (file_seen l.metadata) (all_of (g.R.Failures.device.memory l.fn.reader).whole) (known_dictionaries l.dictionaries) (drop l.block-index l.blocks))
+      (dictionaries_after (file_seen l.metadata) (all_of (g.R.Failures.device.memory l.fn.reader).whole) [] l.blocks);
+  reason : IsTrue g.R.Failures.device.is_memory → (e : Fault)
+      → DictionariesReason (file_seen l.metadata) (g.R.Failures.device.memory l.fn.reader).whole (known_dictionaries l.dictionaries) (drop l.block-index l.blocks) e
+      → DictionariesReason (file_seen l.metadata) (g.R.Failures.device.memory l.fn.reader).whole [] l.blocks e;
 }

@@ -7,7 +7,7 @@ use Rattle.ipc_read_flat.proofs.read.array.boolean.read_boolean.Goals as goal
 
 pub returns-clause-held : goal.returns-clause-held
 returns-clause-held g c =
-    let s = entries g.R.Failures.memory c.args.body.now in
+    let s = entries g.R.Failures.device c.args.body.now in
     let extra = c.args.body.now.extra in
     let b = c.args.place.buffer in
     let u = type_view c.args.data_type.now in

@@ -21,7 +21,7 @@ use Rattle.ipc_read_flat.proofs.read.array.dictionary.read_dictionary.Goals as g
 
 pub returns-in_err-values-clause-memory : goal.returns-in_err-values-clause-memory
 returns-in_err-values-clause-memory g c = λ k.
-    let s = entries g.R.Failures.memory c.args.body.now in
+    let s = entries g.R.Failures.device c.args.body.now in
     let v = type_view c.args.value_type.now in
     let t = dictionary_kind (key_form c.args.keys) c.args.id (norm v) in
     let fault = c.in_err-values.field-0.0 in
@@ -31,7 +31,7 @@ returns-in_err-values-clause-memory g c = λ k.
 
 pub returns-in_err-read-clause-memory : goal.returns-in_err-read-clause-memory
 returns-in_err-read-clause-memory g c = λ k.
-    let s = entries g.R.Failures.memory c.args.body.now in
+    let s = entries g.R.Failures.device c.args.body.now in
     let a = c.args.place.node in
     let b = c.args.place.buffer in
     let f = key_form c.args.keys in
@@ -46,7 +46,7 @@ returns-in_err-read-clause-memory g c = λ k.
 
 pub returns-in_err-array-clause-memory : goal.returns-in_err-array-clause-memory
 returns-in_err-array-clause-memory g c = λ k.
-    let s = entries g.R.Failures.memory c.args.body.now in
+    let s = entries g.R.Failures.device c.args.body.now in
     let vs = known c.args.body.now in
     let a = c.args.place.node in
     let b = c.args.place.buffer in
@@ -56,7 +56,7 @@ returns-in_err-array-clause-memory g c = λ k.
     let l = layout_of c.in_ok-values.values.value in
     let ks = keys_seen c.in_ok-read.read in
     let found = c.in_ok-values.ensures.exact in
-    let many : len_of l ≡ length (values_slots s id) = ap len_of found.1 ∙ values_count g.R.Failures.memory c.args.body.now id in
+    let many : len_of l ≡ length (values_slots s id) = ap len_of found.1 ∙ values_count g.R.Failures.device c.args.body.now id in
     let t = dictionary_kind (key_form c.args.keys) id (norm v) in
     let fault = c.in_err-array.field-0.0 in
     let well : Type 0 = IsWell s t a b c.args.limit in
@@ -69,7 +69,7 @@ returns-in_err-array-clause-memory g c = λ k.
 
 pub returns-clause-memory : goal.returns-clause-memory
 returns-clause-memory g c = λ k.
-    let s = entries g.R.Failures.memory c.args.body.now in
+    let s = entries g.R.Failures.device c.args.body.now in
     let vs = known c.args.body.now in
     let a = c.args.place.node in
     let b = c.args.place.buffer in
@@ -81,12 +81,12 @@ returns-clause-memory g c = λ k.
     let found = c.in_ok-values.ensures.exact in
     let read = c.in_ok-read.ensures.memory k in
     let made = c.in_ok-array.ensures.exact in
-    let many : len_of l ≡ length (values_slots s id) = ap len_of found.1 ∙ values_count g.R.Failures.memory c.args.body.now id in (
+    let many : len_of l ≡ length (values_slots s id) = ap len_of found.1 ∙ values_count g.R.Failures.device c.args.body.now id in (
       keys_well s vs c.args.keys u v id a b c.args.limit ks l c.requires.lies c.requires.named c.in_ok-values.ensures.named many read.1 read.0 found.0 made.0,
       keys_array s vs c.args.keys u v id a b c.args.limit ks l c.requires.lies c.requires.named c.in_ok-values.ensures.named many read.1 found.1 (layout_of c.in_ok-array.array) made.1,
     )
 
 pub returns-clause-held : goal.returns-clause-held
 returns-clause-held g c =
-    dictionary_held (entries g.R.Failures.memory c.args.body.now) c.args.body.now.extra c.args.place.buffer (key_form c.args.keys) c.args.id (norm (type_view c.args.value_type.now)) (type_view c.args.own.now)
+    dictionary_held (entries g.R.Failures.device c.args.body.now) c.args.body.now.extra c.args.place.buffer (key_form c.args.keys) c.args.id (norm (type_view c.args.value_type.now)) (type_view c.args.own.now)
     (keys_seen c.in_ok-read.read) (layout_of c.in_ok-values.values.value) (layout_of c.in_ok-array.array) c.in_ok-array.ensures.exact.1 c.in_ok-read.ensures.held

@@ -17,7 +17,7 @@ returns-in_err-try_new-clause-memory g c =
 
 pub returns-clause-memory : goal.returns-clause-memory
 returns-clause-memory g c = λ k.
-    let s = entries g.R.Failures.memory c.args.body.now in
+    let s = entries g.R.Failures.device c.args.body.now in
     let a = c.args.place.node in
     let b = c.args.place.buffer in
     let z = c.args.size in
@@ -36,7 +36,7 @@ returns-clause-memory g c = λ k.
 
 pub returns-clause-held : goal.returns-clause-held
 returns-clause-held g c =
-    let s = entries g.R.Failures.memory c.args.body.now in
+    let s = entries g.R.Failures.device c.args.body.now in
     let extra = c.args.body.now.extra in
     let b = c.args.place.buffer in
     let u = type_view c.args.data_type.now in

@@ -11,7 +11,7 @@ use Rattle.ipc_read_flat.proofs.read.array.primitive.read_primitive.Goals as goa
 
 pub returns-clause-memory : goal.returns-clause-memory
 returns-clause-memory g c = λ k.
-    let s = entries g.R.Failures.memory c.args.body.now in
+    let s = entries g.R.Failures.device c.args.body.now in
     let p = g.T.NativeType.primitive in
     let w = g.T.NativeType.width in
     let a = c.args.place.node in
@@ -28,12 +28,12 @@ returns-clause-memory g c = λ k.
       ap (λ x. primitive_layout p g.T.NativeType.number x) same
           ∙ primitive_is p g.T.NativeType.number order (g.T.NativeType.value order) w n s u a b c.args.limit c.in_ok-values.values.items c.in_ok-head.head.validity
           (λ ys. g.met.T.NativeType.number_is order ys) (λ ys. g.met.T.NativeType.reads_first order ys) g.met.T.NativeType.width_is some
-          (order_is g.R.Failures.memory c.args.body.now) head.1.0 head.1.1 read.0.2 read.1,
+          (order_is g.R.Failures.device c.args.body.now) head.1.0 head.1.1 read.0.2 read.1,
     )
 
 pub returns-clause-held : goal.returns-clause-held
 returns-clause-held g c =
-    let s = entries g.R.Failures.memory c.args.body.now in
+    let s = entries g.R.Failures.device c.args.body.now in
     let extra = c.args.body.now.extra in
     let b = c.args.place.buffer in
     let u = type_view c.args.data_type.now in

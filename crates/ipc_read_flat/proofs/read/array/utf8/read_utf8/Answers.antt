@@ -18,7 +18,7 @@ use Rattle.ipc_read_flat.proofs.read.array.utf8.read_utf8.Goals as goal
 
 pub returns-in_err-values-clause-memory : goal.returns-in_err-values-clause-memory
 returns-in_err-values-clause-memory g c = λ k.
-    let s = entries g.R.Failures.memory c.args.body.now in
+    let s = entries g.R.Failures.device c.args.body.now in
     let a = c.args.place.node in
     let b = c.args.place.buffer in
     let form = g.O.StoredOffset.form in
@@ -39,7 +39,7 @@ returns-in_err-values-clause-memory g c = λ k.
 
 pub returns-in_err-try_new-clause-memory : goal.returns-in_err-try_new-clause-memory
 returns-in_err-try_new-clause-memory g c = λ k.
-    let s = entries g.R.Failures.memory c.args.body.now in
+    let s = entries g.R.Failures.device c.args.body.now in
     let a = c.args.place.node in
     let b = c.args.place.buffer in
     let form = g.O.StoredOffset.form in
@@ -68,7 +68,7 @@ returns-in_err-try_new-clause-memory g c = λ k.
 
 pub returns-clause-memory : goal.returns-clause-memory
 returns-clause-memory g c = λ k.
-    let s = entries g.R.Failures.memory c.args.body.now in
+    let s = entries g.R.Failures.device c.args.body.now in
     let a = c.args.place.node in
     let b = c.args.place.buffer in
     let form = g.O.StoredOffset.form in
@@ -94,7 +94,7 @@ returns-clause-memory g c = λ k.
 
 pub returns-clause-held : goal.returns-clause-held
 returns-clause-held g c =
-    let s = entries g.R.Failures.memory c.args.body.now in
+    let s = entries g.R.Failures.device c.args.body.now in
     let extra = c.args.body.now.extra in
     let b = c.args.place.buffer in
     let u = type_view c.args.data_type.now in

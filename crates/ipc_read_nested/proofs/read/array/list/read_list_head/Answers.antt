@@ -8,7 +8,7 @@ use Rattle.ipc_read_nested.proofs.read.array.list.read_list_head.Goals as goal
 
 pub returns-then-is_large-clause-memory : goal.returns-then-is_large-clause-memory
 returns-then-is_large-clause-memory g c = λ k.
-    let s = entries g.R.Failures.memory c.args.body.now in
+    let s = entries g.R.Failures.device c.args.body.now in
     let a = c.args.place.node in
     let b = c.args.place.buffer in
     let head = c.in_ok-head.ensures.memory k in
@@ -22,7 +22,7 @@ returns-then-is_large-clause-memory g c = λ k.
 
 pub returns-clause-memory : goal.returns-clause-memory
 returns-clause-memory g c = λ k.
-    let s = entries g.R.Failures.memory c.args.body.now in
+    let s = entries g.R.Failures.device c.args.body.now in
     let a = c.args.place.node in
     let b = c.args.place.buffer in
     let head = c.in_ok-head.ensures.memory k in

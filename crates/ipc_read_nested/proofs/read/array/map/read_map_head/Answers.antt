@@ -8,7 +8,7 @@ use Rattle.ipc_read_nested.proofs.read.array.map.read_map_head.Goals as goal
 
 pub returns-clause-memory : goal.returns-clause-memory
 returns-clause-memory g c = λ k.
-    let s = entries g.R.Failures.memory c.args.body.now in
+    let s = entries g.R.Failures.device c.args.body.now in
     let a = c.args.place.node in
     let b = c.args.place.buffer in
     let head = c.in_ok-head.ensures.memory k in

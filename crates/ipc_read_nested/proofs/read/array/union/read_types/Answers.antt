@@ -9,7 +9,7 @@ use Rattle.ipc_read_nested.proofs.read.array.union.read_types.Goals as goal
 
 pub returns-clause-memory : goal.returns-clause-memory
 returns-clause-memory g c = λ k.
-    let s = entries g.R.Failures.memory c.args.body.now in
+    let s = entries g.R.Failures.device c.args.body.now in
     let a = c.args.place.node in
     let t = c.args.place.buffer + c.args.body.now.extra in
     let n = c.in_ok-node.node.rows in

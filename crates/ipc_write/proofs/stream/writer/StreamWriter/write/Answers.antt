@@ -14,87 +14,47 @@ use Rattle.ipc_write.proofs.stream.writer.StreamWriter.write.Goals as goal
 
 -- ---- refused before any dictionary was chosen
 
-pub returns-in_err-dictionaries-clause-first : goal.returns-in_err-dictionaries-clause-first
-returns-in_err-dictionaries-clause-first g c =
-    let fault = c.in_err-dictionaries.field-0.0 in
-    let e : c.from_residual.result ≡ Err fault = search rules in
-    rw e (first_refused (fault_unless_started c.args.self.now.state) (seen c.args.self.now) _ fault (Err fault) refl c.in_err-dictionaries.ensures.first refl)
-
-pub returns-in_err-dictionaries-clause-step : goal.returns-in_err-dictionaries-clause-step
-returns-in_err-dictionaries-clause-step g c =
+pub returns-in_err-dictionaries : goal.returns-in_err-dictionaries
+returns-in_err-dictionaries g c =
     let fault = c.in_err-dictionaries.field-0.0 in
     let e : c.from_residual.result ≡ Err fault = search rules in
     let only : RefusesChunk (seen c.args.self.now) c.args.columns.now (seen_ids c.args.ipc_fields) fault =
     subst (λ (cs : List AnyArray). RefusesChunk (seen c.args.self.now) cs (seen_ids c.args.ipc_fields) fault) c.arrays.ensures.columns c.in_err-dictionaries.ensures.only in
-    rw e
-    (refused_chunk _ _ _ _ _ _ _ _ _ (record { device = refl; state = refl; types = refl; ids = refl; dictionaries = λ id. refl }) refl
-    (chunk_not_io (seen c.args.self.now) c.args.columns.now (seen_ids c.args.ipc_fields) fault only))
-
-pub returns-in_err-dictionaries-clause-only : goal.returns-in_err-dictionaries-clause-only
-returns-in_err-dictionaries-clause-only g c =
-    let fault = c.in_err-dictionaries.field-0.0 in
-    let e : c.from_residual.result ≡ Err fault = search rules in
-    let only : RefusesChunk (seen c.args.self.now) c.args.columns.now (seen_ids c.args.ipc_fields) fault =
-    subst (λ (cs : List AnyArray). RefusesChunk (seen c.args.self.now) cs (seen_ids c.args.ipc_fields) fault) c.arrays.ensures.columns c.in_err-dictionaries.ensures.only in
-    rw e (refused_chunk_write (seen c.args.self.now) c.args.columns.now (seen_ids c.args.ipc_fields) fault only)
-
-pub returns-in_err-dictionaries-clause-exact : goal.returns-in_err-dictionaries-clause-exact
-returns-in_err-dictionaries-clause-exact g c =
-    let fault = c.in_err-dictionaries.field-0.0 in
-    let e : c.from_residual.result ≡ Err fault = search rules in
-    let only : RefusesChunk (seen c.args.self.now) c.args.columns.now (seen_ids c.args.ipc_fields) fault =
-    subst (λ (cs : List AnyArray). RefusesChunk (seen c.args.self.now) cs (seen_ids c.args.ipc_fields) fault) c.arrays.ensures.columns c.in_err-dictionaries.ensures.only in
-    rw e (refused_exactly (seen c.args.self.now) c.args.columns.now (seen_ids c.args.ipc_fields) fault only)
-
-pub returns-in_err-dictionaries-clause-means : goal.returns-in_err-dictionaries-clause-means
-returns-in_err-dictionaries-clause-means g c =
-    let fault = c.in_err-dictionaries.field-0.0 in
-    let e : c.from_residual.result ≡ Err fault = search rules in
-    rw e (chunk_refused _ _ _ _ fault c.args.columns.now (record { device = refl; state = refl; types = refl; ids = refl; dictionaries = λ id. refl }) refl)
+    rw e (record {
+      exact = refused_exactly (seen c.args.self.now) c.args.columns.now (seen_ids c.args.ipc_fields) fault only;
+      causes = refused_chunk_write (seen c.args.self.now) c.args.columns.now (seen_ids c.args.ipc_fields) fault only;
+      device =
+          refused_chunk _ _ _ _ _ (record { device = refl; state = refl; types = refl; ids = refl; dictionaries = λ id. refl }) refl
+          (chunk_not_io (seen c.args.self.now) c.args.columns.now (seen_ids c.args.ipc_fields) fault only);
+      state = record {
+        first = first_refused (fault_unless_started c.args.self.now.state) (seen c.args.self.now) _ fault (Err fault) refl c.in_err-dictionaries.ensures.first refl;
+        ok = tt;
+      };
+      content = chunk_refused _ _ _ fault c.args.columns.now (record { device = refl; state = refl; types = refl; ids = refl; dictionaries = λ id. refl }) refl;
+    })
 
 -- ---- no memory to remember them
 
-pub returns-in_err-make_room-clause-first : goal.returns-in_err-make_room-clause-first
-returns-in_err-make_room-clause-first g c = first_passed (seen c.args.self.now) _ _ c.in_ok-dictionaries.ensures.ok.was
-
-pub returns-in_err-make_room-clause-step : goal.returns-in_err-make_room-clause-step
-returns-in_err-make_room-clause-step g c =
+pub returns-in_err-make_room : goal.returns-in_err-make_room
+returns-in_err-make_room g c =
     let fault = c.in_err-make_room.field-0.0 in
     let e : c.from_residual-in_err-make_room.result ≡ Err fault = search rules in
-    rw e
-    (refused_chunk _ _ _ _ _ _ _ _ _ (record { device = refl; state = refl; types = refl; ids = refl; dictionaries = c.make_room.ensures.same }) refl
-    (chunk_not_io (seen c.args.self.now) c.args.columns.now (seen_ids c.args.ipc_fields) fault
-    (memory_refused (seen c.args.self.now) c.args.columns.now (seen_ids c.args.ipc_fields) fault c.in_err-make_room.ensures.only)))
-
-pub returns-in_err-make_room-clause-only : goal.returns-in_err-make_room-clause-only
-returns-in_err-make_room-clause-only g c =
-    let fault = c.in_err-make_room.field-0.0 in
-    let e : c.from_residual-in_err-make_room.result ≡ Err fault = search rules in
-    rw e
-    (refused_chunk_write (seen c.args.self.now) c.args.columns.now (seen_ids c.args.ipc_fields) fault
-    (memory_refused (seen c.args.self.now) c.args.columns.now (seen_ids c.args.ipc_fields) fault c.in_err-make_room.ensures.only))
-
-pub returns-in_err-make_room-clause-exact : goal.returns-in_err-make_room-clause-exact
-returns-in_err-make_room-clause-exact g c =
-    let fault = c.in_err-make_room.field-0.0 in
-    let e : c.from_residual-in_err-make_room.result ≡ Err fault = search rules in
-    rw e
-    (refused_exactly (seen c.args.self.now) c.args.columns.now (seen_ids c.args.ipc_fields) fault
-    (memory_refused (seen c.args.self.now) c.args.columns.now (seen_ids c.args.ipc_fields) fault c.in_err-make_room.ensures.only))
-
-pub returns-in_err-make_room-clause-means : goal.returns-in_err-make_room-clause-means
-returns-in_err-make_room-clause-means g c =
-    let fault = c.in_err-make_room.field-0.0 in
-    let e : c.from_residual-in_err-make_room.result ≡ Err fault = search rules in
-    rw e (chunk_refused _ _ _ _ fault c.args.columns.now (record { device = refl; state = refl; types = refl; ids = refl; dictionaries = c.make_room.ensures.same }) refl)
+    let only : RefusesChunk (seen c.args.self.now) c.args.columns.now (seen_ids c.args.ipc_fields) fault =
+    memory_refused (seen c.args.self.now) c.args.columns.now (seen_ids c.args.ipc_fields) fault c.in_err-make_room.ensures.only in
+    rw e (record {
+      exact = refused_exactly (seen c.args.self.now) c.args.columns.now (seen_ids c.args.ipc_fields) fault only;
+      causes = refused_chunk_write (seen c.args.self.now) c.args.columns.now (seen_ids c.args.ipc_fields) fault only;
+      device =
+          refused_chunk _ _ _ _ _ (record { device = refl; state = refl; types = refl; ids = refl; dictionaries = c.make_room.ensures.same }) refl
+          (chunk_not_io (seen c.args.self.now) c.args.columns.now (seen_ids c.args.ipc_fields) fault only);
+      state = record { first = first_passed (seen c.args.self.now) _ _ c.in_ok-dictionaries.ensures.ok.was; ok = tt };
+      content = chunk_refused _ _ _ fault c.args.columns.now (record { device = refl; state = refl; types = refl; ids = refl; dictionaries = c.make_room.ensures.same }) refl;
+    })
 
 -- ---- sent to the device
 
-pub returns-in_err-send_chunk-clause-first : goal.returns-in_err-send_chunk-clause-first
-returns-in_err-send_chunk-clause-first g c = first_passed (seen c.args.self.now) _ _ c.in_ok-dictionaries.ensures.ok.was
-
-pub returns-in_err-send_chunk-clause-step : goal.returns-in_err-send_chunk-clause-step
-returns-in_err-send_chunk-clause-step g c =
+pub returns-in_err-send_chunk : goal.returns-in_err-send_chunk
+returns-in_err-send_chunk g c =
     let fault = c.in_err-send_chunk.field-0.0 in
     let e : c.from_residual-in_err-send_chunk.result ≡ Err fault = search rules in
     let list = map listed c.in_ok-dictionaries.dictionaries.items in
@@ -102,90 +62,44 @@ returns-in_err-send_chunk-clause-step g c =
     let may : MayList (seen c.args.self.now) columns (seen_ids c.args.ipc_fields) list =
     subst (λ (cs : List AnyArray). MayList (seen c.args.self.now) cs (seen_ids c.args.ipc_fields) list) c.arrays.ensures.columns c.in_ok-dictionaries.ensures.ok in
     let sent = c.in_err-send_chunk.ensures in
-    rw e
-    (chunk_unsent g.W.Failures.known g.W.Writes.grows g.W.Failures.failures g.W.Writes.room g.W.Failures.memory (seen c.args.self.now) _ fault columns (seen_ids c.args.ipc_fields) list may
-    (rw c.deref.ensures.value at sent.sends) sent.state refl refl c.make_room.ensures.same refl)
-
-pub returns-in_err-send_chunk-clause-only : goal.returns-in_err-send_chunk-clause-only
-returns-in_err-send_chunk-clause-only g c =
-    let fault = c.in_err-send_chunk.field-0.0 in
-    let e : c.from_residual-in_err-send_chunk.result ≡ Err fault = search rules in
-    let list = map listed c.in_ok-dictionaries.dictionaries.items in
-    let columns = c.args.columns.now in
-    let may : MayList (seen c.args.self.now) columns (seen_ids c.args.ipc_fields) list =
-    subst (λ (cs : List AnyArray). MayList (seen c.args.self.now) cs (seen_ids c.args.ipc_fields) list) c.arrays.ensures.columns c.in_ok-dictionaries.ensures.ok in
-    rw e (refuses_handing (seen c.args.self.now) columns (seen_ids c.args.ipc_fields) list fault may (rw c.deref.ensures.value at c.in_err-send_chunk.ensures.takes))
-
-pub returns-in_err-send_chunk-clause-exact : goal.returns-in_err-send_chunk-clause-exact
-returns-in_err-send_chunk-clause-exact g c =
-    let fault = c.in_err-send_chunk.field-0.0 in
-    let e : c.from_residual-in_err-send_chunk.result ≡ Err fault = search rules in
-    let list = map listed c.in_ok-dictionaries.dictionaries.items in
-    let columns = c.args.columns.now in
-    let may : MayList (seen c.args.self.now) columns (seen_ids c.args.ipc_fields) list =
-    subst (λ (cs : List AnyArray). MayList (seen c.args.self.now) cs (seen_ids c.args.ipc_fields) list) c.arrays.ensures.columns c.in_ok-dictionaries.ensures.ok in
-    rw e (handing_exactly (seen c.args.self.now) columns (seen_ids c.args.ipc_fields) list fault may (rw c.deref.ensures.value at c.in_err-send_chunk.ensures.takes))
-
-pub returns-in_err-send_chunk-clause-means : goal.returns-in_err-send_chunk-clause-means
-returns-in_err-send_chunk-clause-means g c =
-    let fault = c.in_err-send_chunk.field-0.0 in
-    let e : c.from_residual-in_err-send_chunk.result ≡ Err fault = search rules in
-    let list = map listed c.in_ok-dictionaries.dictionaries.items in
-    let columns = c.args.columns.now in
-    let may : MayList (seen c.args.self.now) columns (seen_ids c.args.ipc_fields) list =
-    subst (λ (cs : List AnyArray). MayList (seen c.args.self.now) cs (seen_ids c.args.ipc_fields) list) c.arrays.ensures.columns c.in_ok-dictionaries.ensures.ok in
-    let sent = c.in_err-send_chunk.ensures in
-    rw e
-    (chunk_not_appended g.W.Failures.known g.W.Writes.grows g.W.Failures.failures g.W.Writes.room g.W.Failures.memory (seen c.args.self.now) _ fault columns may.was
-    (chunk_unsent g.W.Failures.known g.W.Writes.grows g.W.Failures.failures g.W.Writes.room g.W.Failures.memory (seen c.args.self.now) _ fault columns (seen_ids c.args.ipc_fields) list may
-    (rw c.deref.ensures.value at sent.sends) sent.state refl refl c.make_room.ensures.same refl))
+    rw e (record {
+      exact = handing_exactly (seen c.args.self.now) columns (seen_ids c.args.ipc_fields) list fault may (rw c.deref.ensures.value at sent.takes);
+      causes = refuses_handing (seen c.args.self.now) columns (seen_ids c.args.ipc_fields) list fault may (rw c.deref.ensures.value at sent.takes);
+      device =
+          chunk_unsent g.W.Failures.device (seen c.args.self.now) _ fault columns (seen_ids c.args.ipc_fields) list may
+          (rw c.deref.ensures.value at sent.sends) sent.state refl refl c.make_room.ensures.same refl;
+      state = record { first = first_passed (seen c.args.self.now) _ _ c.in_ok-dictionaries.ensures.ok.was; ok = tt };
+      content =
+          chunk_not_appended g.W.Failures.device (seen c.args.self.now) _ fault columns may.was
+          (chunk_unsent g.W.Failures.device (seen c.args.self.now) _ fault columns (seen_ids c.args.ipc_fields) list may
+          (rw c.deref.ensures.value at sent.sends) sent.state refl refl c.make_room.ensures.same refl);
+    })
 
 -- ---- sent
 
-pub returns-clause-first : goal.returns-clause-first
-returns-clause-first g c = first_passed (seen c.args.self.now) _ _ c.in_ok-dictionaries.ensures.ok.was
-
-pub returns-clause-step : goal.returns-clause-step
-returns-clause-step g c =
+pub returns : goal.returns
+returns g c =
     let list = map listed c.in_ok-dictionaries.dictionaries.items in
     let columns = c.args.columns.now in
     let may : MayList (seen c.args.self.now) columns (seen_ids c.args.ipc_fields) list =
     subst (λ (cs : List AnyArray). MayList (seen c.args.self.now) cs (seen_ids c.args.ipc_fields) list) c.arrays.ensures.columns c.in_ok-dictionaries.ensures.ok in
     let remembers =
     remembered_with_room list (remembered c.args.self.now.dictionary_tracker) (remembered c.make_room.new.self) (remembered c.remember_all.new.self) c.make_room.ensures.same c.remember_all.ensures.memory in
-    chunk_sent g.W.Failures.known g.W.Writes.grows g.W.Failures.failures g.W.Writes.room g.W.Failures.memory (seen c.args.self.now) _ tt columns (seen_ids c.args.ipc_fields) list may
-    (rw c.deref.ensures.value at c.in_ok-send_chunk.ensures.sends) remembers refl
-
-pub returns-clause-ok : goal.returns-clause-ok
-returns-clause-ok g c =
-    let may = c.in_ok-dictionaries.ensures.ok in
     record {
-      was = may.was;
-      is = c.in_ok-send_chunk.ensures.state ∙ may.was;
-      types = refl;
-      ids_stay = refl;
-      ids_same = may.ids_same;
-      fits = rw c.arrays.ensures.columns at may.fits.have;
+      exact =
+          taken_exactly (seen c.args.self.now) columns (seen_ids c.args.ipc_fields) tt
+          (may_be_written (seen c.args.self.now) columns (seen_ids c.args.ipc_fields) list (row_count len_of (map layout_of columns)) may c.in_ok-send_chunk.ensures.takes);
+      causes = tt;
+      device =
+          chunk_sent g.W.Failures.device (seen c.args.self.now) _ tt columns (seen_ids c.args.ipc_fields) list may
+          (rw c.deref.ensures.value at c.in_ok-send_chunk.ensures.sends) remembers refl;
+      state = record {
+        first = first_passed (seen c.args.self.now) _ _ c.in_ok-dictionaries.ensures.ok.was;
+        ok = record { was = may.was; is = c.in_ok-send_chunk.ensures.state ∙ may.was; types = refl; ids_stay = refl; ids_same = may.ids_same; fits = may.fits.have };
+      };
+      content =
+          chunk_appended g.W.Failures.device (seen c.args.self.now) _ tt columns (seen_ids c.args.ipc_fields) may.was (c.in_ok-send_chunk.ensures.state ∙ may.was) refl refl
+          (may_be_written (seen c.args.self.now) columns (seen_ids c.args.ipc_fields) list (row_count len_of (map layout_of columns)) may c.in_ok-send_chunk.ensures.takes)
+          (chunk_sent g.W.Failures.device (seen c.args.self.now) _ tt columns (seen_ids c.args.ipc_fields) list may
+          (rw c.deref.ensures.value at c.in_ok-send_chunk.ensures.sends) remembers refl);
     }
-
-pub returns-clause-exact : goal.returns-clause-exact
-returns-clause-exact g c =
-    let list = map listed c.in_ok-dictionaries.dictionaries.items in
-    let columns = c.args.columns.now in
-    let may : MayList (seen c.args.self.now) columns (seen_ids c.args.ipc_fields) list =
-    subst (λ (cs : List AnyArray). MayList (seen c.args.self.now) cs (seen_ids c.args.ipc_fields) list) c.arrays.ensures.columns c.in_ok-dictionaries.ensures.ok in
-    taken_exactly (seen c.args.self.now) columns (seen_ids c.args.ipc_fields) tt
-    (may_be_written (seen c.args.self.now) columns (seen_ids c.args.ipc_fields) list (row_count len_of (map layout_of columns)) may c.in_ok-send_chunk.ensures.takes)
-
-pub returns-clause-means : goal.returns-clause-means
-returns-clause-means g c =
-    let list = map listed c.in_ok-dictionaries.dictionaries.items in
-    let columns = c.args.columns.now in
-    let may : MayList (seen c.args.self.now) columns (seen_ids c.args.ipc_fields) list =
-    subst (λ (cs : List AnyArray). MayList (seen c.args.self.now) cs (seen_ids c.args.ipc_fields) list) c.arrays.ensures.columns c.in_ok-dictionaries.ensures.ok in
-    let remembers =
-    remembered_with_room list (remembered c.args.self.now.dictionary_tracker) (remembered c.make_room.new.self) (remembered c.remember_all.new.self) c.make_room.ensures.same c.remember_all.ensures.memory in
-    chunk_appended g.W.Failures.known g.W.Writes.grows g.W.Failures.failures g.W.Writes.room g.W.Failures.memory (seen c.args.self.now) _ tt columns (seen_ids c.args.ipc_fields) may.was (c.in_ok-send_chunk.ensures.state ∙ may.was) refl refl
-    (may_be_written (seen c.args.self.now) columns (seen_ids c.args.ipc_fields) list (row_count len_of (map layout_of columns)) may c.in_ok-send_chunk.ensures.takes)
-    (chunk_sent g.W.Failures.known g.W.Writes.grows g.W.Failures.failures g.W.Writes.room g.W.Failures.memory (seen c.args.self.now) _ tt columns (seen_ids c.args.ipc_fields) list may
-    (rw c.deref.ensures.value at c.in_ok-send_chunk.ensures.sends) remembers refl)

@@ -27,16 +27,17 @@ returns-in_err-chunk g c =
         values = refl;
         room = c.in_err-chunk.ensures.idle;
         asked = record {
-          monotone = c.in_err-chunk.ensures.monotone;
-          failed = search rules;
-          told = search rules;
-          whole = c.in_err-chunk.ensures.whole;
+          monotone = c.in_err-chunk.ensures.batch.device.monotone;
+          failed = rw is c.in_err-chunk.ensures.batch.device.failed;
+          told = rw is c.in_err-chunk.ensures.batch.device.told;
+          whole = c.in_err-chunk.ensures.batch.device.whole;
+          names = c.in_err-chunk.ensures.batch.device.names;
         };
         chunk = λ ds e.
-            refused_chunk g.R.Failures.known c.args.self.now.projection c.args.self.now.metadata c.args.self.now.remaining c.args.block
-            (known_dictionaries c.in-Some.dictionaries) ds (g.R.Failures.memory c.args.self.now.reader).whole _ _ _ _ c.rising.ensures.same c.rising.ensures.columns
+            refused_chunk g.R.Failures.device.is_memory c.args.self.now.projection c.args.self.now.metadata c.args.self.now.remaining c.args.block
+            (known_dictionaries c.in-Some.dictionaries) ds (g.R.Failures.device.memory c.args.self.now.reader).whole _ _ _ _ c.rising.ensures.same c.rising.ensures.columns
             (same_known known_dictionaries c.args.self.now.dictionaries c.in-Some.dictionaries ds c.in-Some.is e) c.from_residual.result fault is
-            c.in_err-chunk.ensures.only c.in_err-chunk.ensures.reason c.in_err-chunk.ensures.memory;
+            c.in_err-chunk.ensures.batch.causes.kind c.in_err-chunk.ensures.batch.causes.reason c.in_err-chunk.ensures.batch.exact;
       };
     }
 
@@ -50,16 +51,17 @@ returns g c = record {
     values = refl;
     room = c.in_ok-chunk.ensures.idle;
     asked = record {
-      monotone = c.in_ok-chunk.ensures.monotone;
+      monotone = c.in_ok-chunk.ensures.batch.device.monotone;
       failed = no_io c.in_order.result _ c.in_order.ensures.only;
-      told = unless_io c.in_order.result _ c.in_ok-chunk.ensures.told;
-      whole = c.in_ok-chunk.ensures.whole;
+      told = unless_io c.in_order.result _ c.in_ok-chunk.ensures.batch.device.told;
+      whole = c.in_ok-chunk.ensures.batch.device.whole;
+      names = c.in_ok-chunk.ensures.batch.device.names;
     };
     chunk = λ ds e.
-        read_chunk g.R.Failures.known c.args.self.now.projection c.args.self.now.metadata c.args.self.now.remaining c.args.block
-        (known_dictionaries c.in-Some.dictionaries) ds (g.R.Failures.memory c.args.self.now.reader).whole _ _ c.read_batch.new.message_scratch.items _ c.rising.ensures.same c.rising.ensures.columns
+        read_chunk g.R.Failures.device.is_memory c.args.self.now.projection c.args.self.now.metadata c.args.self.now.remaining c.args.block
+        (known_dictionaries c.in-Some.dictionaries) ds (g.R.Failures.device.memory c.args.self.now.reader).whole _ _ c.read_batch.new.message_scratch.items _ c.rising.ensures.same c.rising.ensures.columns
         (same_known known_dictionaries c.args.self.now.dictionaries c.in-Some.dictionaries ds c.in-Some.is e) c.in_ok-chunk.chunk c.in_order.result
-        c.in_ok-chunk.ensures.many c.in_order.ensures.ordered c.in_order.ensures.only c.in_ok-chunk.ensures.message
-        c.in_ok-chunk.ensures.given c.in_ok-chunk.ensures.held c.in_ok-chunk.ensures.memory c.in_ok-chunk.ensures.values;
+        c.in_ok-chunk.ensures.batch.bounds.many c.in_order.ensures.ordered c.in_order.ensures.only c.in_ok-chunk.ensures.batch.bounds.message
+        c.in_ok-chunk.ensures.batch.bounds.given c.in_ok-chunk.ensures.batch.bounds.held c.in_ok-chunk.ensures.batch.exact c.in_ok-chunk.ensures.batch.values;
   };
 }

@@ -18,6 +18,7 @@ use Rattle.ipc_read.proofs.AskedColumns.{are_prepared, as_many_read, values_in_o
 use Rattle.ipc_readers.proofs.GivenColumns.{given_columns, no_memory, refused_columns, stream_faults}
 use Rattle.ipc_projection.specs.ChosenColumns.{rising_by}
 use Rattle.ipc_readers.specs.Streams.{known_in, request_in}
+use Rattle.ipc_readers.proofs.OfMemory.{no_failure}
 use Rattle.ipc_readers.proofs.read.stream.reader.Batches.columns.Goals as goal
 
 pub read_record_batch-requires : goal.read_record_batch-requires
@@ -38,7 +39,7 @@ in_order-requires c =
     let read : List AnyArray = c.in_ok-read.read in
     let Many : Option (List ℕ) → List Field → Type 0 = λ p ds. length read ≡ length (chosen p (length ds)) in
     as_many_read (length fs) old.projection (length read)
-    (subst (λ ds. Many (rising_by old.projection) ds) fields_are (subst (λ p. Many p c.deref.result.now) c.rising.ensures.columns c.in_ok-read.ensures.many))
+    (subst (λ ds. Many (rising_by old.projection) ds) fields_are (subst (λ p. Many p c.deref.result.now) c.rising.ensures.columns c.in_ok-read.ensures.batch.bounds.many))
 
 pub returns-clause-memory : goal.returns-clause-memory
 returns-clause-memory c =
@@ -51,14 +52,14 @@ returns-clause-memory c =
     let fields_are : c.deref.result.now ≡ fs = search rules in
     let read : List AnyArray = c.in_ok-read.read in
     let Read : Option (List ℕ) → List Field → List ℕ → Type 0 = λ p ds bs. GivesBatch (batch_schema ds m.ipc_schema) (extra_of m.version) (known_dictionaries old.dictionaries) (record { source = bs; base = 0; size = length body }) c.args.batch p None (Ok read) in
-    let given : Read (option_copied c.rising.result) c.deref.result.now bytes = c.in_ok-read.ensures.memory refl in
+    let given : Read (option_copied c.rising.result) c.deref.result.now bytes = c.in_ok-read.ensures.batch.exact refl in
     let Many : Option (List ℕ) → List Field → Type 0 = λ p ds. length read ≡ length (chosen p (length ds)) in
     let Hold : Option (List ℕ) → List Field → Type 0 =
     λ p ds. HoldChosen (length body) (lists_of c.args.batch) (extra_of m.version) (kinds (batch_schema ds m.ipc_schema)) (chosen p (length ds)) read in
-    let hold : Hold (option_copied c.rising.result) c.deref.result.now = c.in_ok-read.ensures.held in
+    let hold : Hold (option_copied c.rising.result) c.deref.result.now = c.in_ok-read.ensures.batch.bounds.held in
     given_columns old.projection fs (pairs_of m.schema.metadata.entries) (all_ids_view m.ipc_schema.fields.items) (order_of m.ipc_schema.is_little_endian) m.version c.rising.ensures.same
     (known_in old) c.args.batch body read c.in_ok-chunk.chunk
-    (as_many_read (length fs) old.projection (length read) (subst (λ ds. Many (rising_by old.projection) ds) fields_are (subst (λ p. Many p c.deref.result.now) c.rising.ensures.columns c.in_ok-read.ensures.many)))
+    (as_many_read (length fs) old.projection (length read) (subst (λ ds. Many (rising_by old.projection) ds) fields_are (subst (λ p. Many p c.deref.result.now) c.rising.ensures.columns c.in_ok-read.ensures.batch.bounds.many)))
     c.in_ok-chunk.ensures.ordered
     (subst (λ ds. Hold (rising_by old.projection) ds) fields_are (subst (λ p. Hold p c.deref.result.now) c.rising.ensures.columns hold))
     (subst (λ bs. Read (rising_by old.projection) fs bs) bytes_are (subst (λ ds. Read (rising_by old.projection) ds bytes) fields_are (subst (λ p. Read p c.deref.result.now bytes) c.rising.ensures.columns given)))
@@ -76,13 +77,13 @@ returns-in_err-read-clause-memory c =
     let fault : Fault = c.in_err-read.field-0.0 in
     let e : c.from_residual.result ≡ Err fault = search rules in
     let Read : Option (List ℕ) → List Field → List ℕ → Type 0 = λ p ds bs. GivesBatch (batch_schema ds m.ipc_schema) (extra_of m.version) (known_dictionaries old.dictionaries) (record { source = bs; base = 0; size = length body }) c.args.batch p None (Err fault) in
-    let given : Read (option_copied c.rising.result) c.deref.result.now bytes = c.in_err-read.ensures.memory refl in
+    let given : Read (option_copied c.rising.result) c.deref.result.now bytes = c.in_err-read.ensures.batch.exact refl in
     let Blames : Option (List ℕ) → List Field → Type 0 = λ p ds. OwnFault fault (IsFaultOfBatch (kinds (batch_schema ds m.ipc_schema)) (chosen p (length ds)) fault) in
-    let blamed : Blames (option_copied c.rising.result) c.deref.result.now = c.in_err-read.ensures.only in
+    let blamed : Blames (option_copied c.rising.result) c.deref.result.now = c.in_err-read.ensures.batch.causes.kind in
     let Tells : List Field → Type 0 = λ ds. TellsBatch (batch_schema ds m.ipc_schema) (extra_of m.version) c.args.batch (length body) fault in
-    let told : Tells c.deref.result.now = c.in_err-read.ensures.lists in
+    let told : Tells c.deref.result.now = c.in_err-read.ensures.batch.causes.lists in
     let Names : List ℕ → Type 0 = λ bs. TellsColumns true (order_of m.ipc_schema.is_little_endian) (extra_of m.version) (known_dictionaries old.dictionaries) (record { source = bs; base = 0; size = length body }) c.args.batch fault in
-    let named : Names bytes = c.in_err-read.ensures.tells in
+    let named : Names bytes = c.in_err-read.ensures.batch.causes.entries in
     rw e (refused_columns old.projection fs (pairs_of m.schema.metadata.entries) is (order_of m.ipc_schema.is_little_endian) m.version c.rising.ensures.same
     (known_in old) c.args.batch body fault
     (subst (λ ds. Blames (rising_by old.projection) ds) fields_are (subst (λ p. Blames p c.deref.result.now) c.rising.ensures.columns blamed))
@@ -104,7 +105,7 @@ returns-in_err-read-clause-only c =
     let fault : Fault = c.in_err-read.field-0.0 in
     let e : c.from_residual.result ≡ Err fault = search rules in
     let Blames : Option (List ℕ) → List Field → Type 0 = λ p ds. OwnFault fault (IsFaultOfBatch (kinds (batch_schema ds m.ipc_schema)) (chosen p (length ds)) fault) in
-    let blamed : Blames (option_copied c.rising.result) c.deref.result.now = c.in_err-read.ensures.only in
+    let blamed : Blames (option_copied c.rising.result) c.deref.result.now = c.in_err-read.ensures.batch.causes.kind in
     rw e (stream_faults old.projection fs (pairs_of m.schema.metadata.entries) (all_ids_view m.ipc_schema.fields.items) (order_of m.ipc_schema.is_little_endian) m.version c.rising.ensures.same fault
     (subst (λ ds. Blames (rising_by old.projection) ds) fields_are (subst (λ p. Blames p c.deref.result.now) c.rising.ensures.columns blamed)))
 
@@ -118,9 +119,15 @@ returns-clause-values c =
     let fields_are : c.deref.result.now ≡ fs = search rules in
     let read : List AnyArray = c.in_ok-read.read in
     let Have : Option (List ℕ) → List Field → Type 0 = λ p ds. HaveMeaning known is (chosen p (length ds)) (chunk_seen read) (map layout_of read) in
-    let have : Have (option_copied c.rising.result) c.deref.result.now = c.in_ok-read.ensures.values refl in
+    let have : Have (option_copied c.rising.result) c.deref.result.now = c.in_ok-read.ensures.batch.values refl in
     let Many : Option (List ℕ) → List Field → Type 0 = λ p ds. length read ≡ length (chosen p (length ds)) in
     values_in_order known is (length fs) old.projection read c.in_ok-chunk.chunk c.rising.ensures.same
-    (as_many_read (length fs) old.projection (length read) (subst (λ ds. Many (rising_by old.projection) ds) fields_are (subst (λ p. Many p c.deref.result.now) c.rising.ensures.columns c.in_ok-read.ensures.many)))
+    (as_many_read (length fs) old.projection (length read) (subst (λ ds. Many (rising_by old.projection) ds) fields_are (subst (λ p. Many p c.deref.result.now) c.rising.ensures.columns c.in_ok-read.ensures.batch.bounds.many)))
     c.in_ok-chunk.ensures.ordered
     (subst (λ ds. Have (rising_by old.projection) ds) fields_are (subst (λ p. Have p c.deref.result.now) c.rising.ensures.columns have))
+
+pub returns-in_err-read-clause-own : goal.returns-in_err-read-clause-own
+returns-in_err-read-clause-own c =
+    let fault : Fault = c.in_err-read.field-0.0 in
+    let e : c.from_residual.result ≡ Err fault = search rules in
+    rw e (no_failure (List AnyArray) (List AnyArray) fault c.in_err-read.ensures.batch.device.failed)

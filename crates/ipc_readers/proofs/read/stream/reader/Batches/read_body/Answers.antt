@@ -16,7 +16,7 @@ returns-in_err-read_into-clause-gives g c =
     let mid = c.pass.follows.lender-at-none in
     let none : g.R.Reads.gives c.args.reader.now [] going mid = search rules in
     rw e (body_stopped g.R.Reads.gives (request_in old) (known_in old) m c.args.reader.now c.read_into.new.reader fault (known_in old) c.in_ok-check.ensures.admitted.kind c.in_err-read_into.ensures.only
-    (stopped_behind g.R.Reads.gives g.met.R.Reads.gives_in_order c.args.reader.now mid c.read_into.new.reader m.body fault none c.in_err-read_into.ensures.gives))
+    (stopped_behind g.R.Reads.gives g.met.R.Reads.laws.in_order c.args.reader.now mid c.read_into.new.reader m.body fault none c.in_err-read_into.ensures.gives))
 
 pub returns-clause-gives : goal.returns-clause-gives
 returns-clause-gives g c =
@@ -29,7 +29,7 @@ returns-clause-gives g c =
     let new = c.read_into.new.reader in
     let none : g.R.Reads.gives c.args.reader.now [] going mid = search rules in
     let read = c.in_ok-read_into.ensures.gives in
-    let all : g.R.Reads.gives c.args.reader.now items going new = g.met.R.Reads.gives_in_order c.args.reader.now [] mid items going new none read.1 in
+    let all : g.R.Reads.gives c.args.reader.now items going new = g.met.R.Reads.laws.in_order c.args.reader.now [] mid items going new none read.1 in
     body_read g.R.Reads.gives (request_in old) (known_in old) m.tag m.table m.body c.args.reader.now new body c.read_batch-2.result (known_in c.read_batch-2.new.self)
     (subst (λ (l : List ℕ). length l ≡ m.body) same read.0) (subst (λ (l : List ℕ). g.R.Reads.gives c.args.reader.now l going new) same all)
     c.read_batch-2.ensures.own c.read_batch-2.ensures.memory
@@ -45,6 +45,6 @@ returns-clause-held g c =
     let new = c.read_into.new.reader in
     let none : g.R.Reads.gives c.args.reader.now [] going mid = search rules in
     let read = c.in_ok-read_into.ensures.gives in
-    let all : g.R.Reads.gives c.args.reader.now items going new = g.met.R.Reads.gives_in_order c.args.reader.now [] mid items going new none read.1 in
+    let all : g.R.Reads.gives c.args.reader.now items going new = g.met.R.Reads.laws.in_order c.args.reader.now [] mid items going new none read.1 in
     kept_of_body g.R.Reads.gives (request_in old) m c.args.reader.now new body c.read_batch-2.result (values_in old) (values_in c.read_batch-2.new.self)
     (subst (λ (l : List ℕ). length l ≡ m.body) same read.0) (subst (λ (l : List ℕ). g.R.Reads.gives c.args.reader.now l going new) same all) c.read_batch-2.ensures.held

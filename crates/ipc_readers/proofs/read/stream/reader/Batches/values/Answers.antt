@@ -1,4 +1,4 @@
-use Rattle.std.proofs.Common.{true, rules, ◌≡◌, ◌+◌, refl, ℕ, ℤ, List, length, subst, Option, Result, Ok, Err}
+use Rattle.std.proofs.Common.{true, rules, ◌≡◌, ◌+◌, refl, ℕ, ℤ, List, length, subst, Option, Result, Ok, Err, inl, inr, ap, sym}
 use Rattle.lower.specs.TypeViews.{fields_view, pairs_of}
 use Rattle.lower.specs.declared.datatypes.Field.{Field}
 use Rattle.ipc_base.specs.IdTrees.{all_ids_view}
@@ -7,13 +7,18 @@ use Rattle.ipc_devices.specs.Faults.{OwnFault}
 use Rattle.ipc_devices.specs.declared.fault.Fault.{Fault}
 use Rattle.ipc_model.specs.Batches.{extra_of}
 use Rattle.ipc_read.specs.Chunks.{batch_schema, order_of}
-use Rattle.ipc_read.specs.DictionaryBatches.{BlamesDictionary, GivesDictionary, TellsValues, TellsOfValues}
+use Rattle.ipc_read.specs.DictionaryBatches.{BlamesDictionary, GivesDictionary, TellsValues, TellsOfValues, IsDictionaryFault}
 use Rattle.ipc_read.specs.HeldChunks.{HoldsValues}
 use Rattle.ipc_readers.proofs.Bodies.{values_give}
 use Rattle.ipc_readers.proofs.Kept.{same_arrays}
 use Rattle.lower_arrays.specs.Layouts.{Layout}
 use Rattle.ipc_projection.specs.ChosenColumns.{asked_by}
-use Rattle.ipc_readers.specs.Streams.{known_in}
+use Rattle.ipc_readers.specs.Streams.{known_in, request_in}
+use Rattle.ipc_devices.proofs.Claims.{claims_through}
+use Rattle.ipc_readers.specs.Refusals.{IsStreamFault}
+use Rattle.ipc_model.specs.Entries.{Dictionaries, dictionary_at}
+use Rattle.ipc_read.proofs.KnownDictionaries.{same_known}
+use Rattle.ipc_readers.proofs.OfMemory.{no_failure}
 use Rattle.ipc_readers.proofs.read.stream.reader.Batches.values.Goals as goal
 
 pub returns-clause-memory : goal.returns-clause-memory
@@ -28,7 +33,7 @@ returns-clause-memory c =
     let r : Result Unit Fault = Ok tt in
     let after = known_dictionaries c.read_dictionary.new.dictionaries in
     let Read : List Field → List ℕ → Type 0 = λ ds bs. GivesDictionary (batch_schema ds m.ipc_schema) (extra_of m.version) (known_dictionaries old.dictionaries) (record { source = bs; base = 0; size = length body }) c.args.batch r after in
-    let given : Read c.deref.result.now bytes = c.in_ok-read_dictionary.ensures.memory refl in
+    let given : Read c.deref.result.now bytes = c.in_ok-read_dictionary.ensures.dictionary.exact refl in
     values_give (fields_view fs) (pairs_of m.schema.metadata.entries) (all_ids_view m.ipc_schema.fields.items) (order_of m.ipc_schema.is_little_endian) m.version (asked_by old.projection) (known_in old)
     c.args.batch body r (record { dictionaries = after; count = old.count + 1 }) c.requires refl tt tt tt
     (subst (λ bs. Read fs bs) bytes_are (subst (λ ds. Read ds bytes) fields_are given))
@@ -47,13 +52,13 @@ returns-in_err-read_dictionary-clause-memory c =
     let r : Result Unit Fault = Err fault in
     let after = known_dictionaries c.read_dictionary.new.dictionaries in
     let Read : List Field → List ℕ → Type 0 = λ ds bs. GivesDictionary (batch_schema ds m.ipc_schema) (extra_of m.version) (known_dictionaries old.dictionaries) (record { source = bs; base = 0; size = length body }) c.args.batch r after in
-    let given : Read c.deref.result.now bytes = c.in_err-read_dictionary.ensures.memory refl in
+    let given : Read c.deref.result.now bytes = c.in_err-read_dictionary.ensures.dictionary.exact refl in
     let Blames : List Field → Type 0 = λ ds. OwnFault fault (BlamesDictionary (batch_schema ds m.ipc_schema) c.args.batch fault) in
-    let blamed : Blames c.deref.result.now = c.in_err-read_dictionary.ensures.blames in
+    let blamed : Blames c.deref.result.now = c.in_err-read_dictionary.ensures.dictionary.causes.field in
     let Tells : List Field → Type 0 = λ ds. TellsValues (batch_schema ds m.ipc_schema) (extra_of m.version) c.args.batch (length body) fault in
-    let told : Tells c.deref.result.now = c.in_err-read_dictionary.ensures.lists in
+    let told : Tells c.deref.result.now = c.in_err-read_dictionary.ensures.dictionary.causes.lists in
     let Names : List Field → List ℕ → Type 0 = λ ds bs. TellsOfValues true (batch_schema ds m.ipc_schema) (extra_of m.version) (known_dictionaries old.dictionaries) (record { source = bs; base = 0; size = length body }) c.args.batch fault in
-    let named : Names c.deref.result.now bytes = c.in_err-read_dictionary.ensures.tells in
+    let named : Names c.deref.result.now bytes = c.in_err-read_dictionary.ensures.dictionary.causes.entries in
     rw e (values_give (fields_view fs) (pairs_of m.schema.metadata.entries) (all_ids_view m.ipc_schema.fields.items) (order_of m.ipc_schema.is_little_endian) m.version (asked_by old.projection) (known_in old)
     c.args.batch body r (record { dictionaries = after; count = old.count }) c.requires tt
     (subst (λ ds. Blames ds) fields_are blamed) (subst (λ ds. Tells ds) fields_are told) (subst (λ bs. Names fs bs) bytes_are (subst (λ ds. Names ds bytes) fields_are named))
@@ -68,11 +73,30 @@ returns-clause-held c =
     let before : Option ℤ → Layout = λ id. array_under old.dictionaries id in
     let after : Option ℤ → Layout = λ id. array_under c.read_dictionary.new.dictionaries id in
     let Put : List Field → Type 0 = λ ds. HoldsValues (length c.args.body.now) (batch_schema ds m.ipc_schema) (extra_of m.version) c.args.batch before after in
-    let there : Put c.deref.result.now = c.in_ok-read_dictionary.ensures.held in
+    let there : Put c.deref.result.now = c.in_ok-read_dictionary.ensures.dictionary.bounds.held in
     let put : Put fs = subst Put fields_are there in
     (refl, record { id = put.id; values = put.values; head = put.head; own_buffers = put.own_buffers; all_buffers = put.all_buffers; others = put.others })
 
 pub returns-in_err-read_dictionary-clause-held : goal.returns-in_err-read_dictionary-clause-held
 returns-in_err-read_dictionary-clause-held c =
     let e : c.from_residual.result ≡ Err c.in_err-read_dictionary.field-0.0 = search rules in
-    rw e (same_arrays c.args.self.now.dictionaries c.read_dictionary.new.dictionaries c.in_err-read_dictionary.ensures.kept)
+    rw e (same_arrays c.args.self.now.dictionaries c.read_dictionary.new.dictionaries c.in_err-read_dictionary.ensures.dictionary.state.kept)
+
+pub returns-in_err-read_dictionary-clause-only : goal.returns-in_err-read_dictionary-clause-only
+returns-in_err-read_dictionary-clause-only c =
+    let fault : Fault = c.in_err-read_dictionary.field-0.0 in
+    let e : c.from_residual.result ≡ Err fault = search rules in
+    rw e (claims_through fault (IsDictionaryFault fault) (IsStreamFault (request_in c.args.self.now) fault) (λ f. inr (inr (inr (inl f)))) c.in_err-read_dictionary.ensures.dictionary.causes.kind)
+
+pub returns-in_err-read_dictionary-clause-own : goal.returns-in_err-read_dictionary-clause-own
+returns-in_err-read_dictionary-clause-own c =
+    let fault : Fault = c.in_err-read_dictionary.field-0.0 in
+    let e : c.from_residual.result ≡ Err fault = search rules in
+    rw e (no_failure (Unit {0}) (Unit {0}) fault c.in_err-read_dictionary.ensures.dictionary.device.failed)
+
+pub returns-in_err-read_dictionary-clause-kept : goal.returns-in_err-read_dictionary-clause-kept
+returns-in_err-read_dictionary-clause-kept c =
+    let e : c.from_residual.result ≡ Err c.in_err-read_dictionary.field-0.0 = search rules in
+    let same : known_dictionaries c.read_dictionary.new.dictionaries ≡ known_dictionaries c.args.self.now.dictionaries =
+    same_known c.args.self.now.dictionaries c.read_dictionary.new.dictionaries c.in_err-read_dictionary.ensures.dictionary.state.kept in
+    rw e (record { alike = record { each = λ id. ap (λ (ds : Dictionaries). dictionary_at ds id) (sym same) }; count = refl })

@@ -52,7 +52,7 @@ returns-in_err-read-in-Message-clause-gives g c =
     let same : c.deref.result.now ≡ m = search rules in
     let some : header_of m ≡ Some d = subst (λ (l : List ℕ). header_of l ≡ Some d) same c.in_ok-message-in-Message.ensures.message in
     let opens : opened m ≡ Ok d = subst (λ (l : List ℕ). opened l ≡ Ok d) same (sym c.in_ok-message-in-Message.ensures.exact) in
-    rw e (item_then g.R.Reads.gives g.met.R.Reads.gives_in_order (request_of old) (known_of old) (known_in c.read_body.new.self) (begun_of old) (begun_bytes c.read_frame.new.begun) m d (Err fault)
+    rw e (item_then g.R.Reads.gives g.met.R.Reads.laws.in_order (request_of old) (known_of old) (known_in c.read_body.new.self) (begun_of old) (begun_bytes c.read_frame.new.begun) m d (Err fault)
     (device_of old) c.read_frame.new.reader c.read_body.new.reader some opens (rw c.in-Message.is at c.in_ok-read_frame.ensures.gives) c.in_err-read-in-Message.ensures.gives)
 
 pub returns-in-Some-clause-gives : goal.returns-in-Some-clause-gives
@@ -63,7 +63,7 @@ returns-in-Some-clause-gives g c =
     let same : c.deref.result.now ≡ m = search rules in
     let some : header_of m ≡ Some d = subst (λ (l : List ℕ). header_of l ≡ Some d) same c.in_ok-message-in-Message.ensures.message in
     let opens : opened m ≡ Ok d = subst (λ (l : List ℕ). opened l ≡ Ok d) same (sym c.in_ok-message-in-Message.ensures.exact) in
-    item_then g.R.Reads.gives g.met.R.Reads.gives_in_order (request_of old) (known_of old) (known_in c.read_body.new.self) (begun_of old) (begun_bytes c.read_frame.new.begun) m d (Ok (Some c.in-Some.chunk))
+    item_then g.R.Reads.gives g.met.R.Reads.laws.in_order (request_of old) (known_of old) (known_in c.read_body.new.self) (begun_of old) (begun_bytes c.read_frame.new.begun) m d (Ok (Some c.in-Some.chunk))
     (device_of old) c.read_frame.new.reader c.read_body.new.reader some opens (rw c.in-Message.is at c.in_ok-read_frame.ensures.gives) (rw c.in-Some.is at c.in_ok-read-in-Message.ensures.gives)
 
 pub returns-in-None-clause-gives : goal.returns-in-None-clause-gives
@@ -74,7 +74,7 @@ returns-in-None-clause-gives g c =
     let same : c.deref.result.now ≡ m = search rules in
     let some : header_of m ≡ Some d = subst (λ (l : List ℕ). header_of l ≡ Some d) same c.in_ok-message-in-Message.ensures.message in
     let opens : opened m ≡ Ok d = subst (λ (l : List ℕ). opened l ≡ Ok d) same (sym c.in_ok-message-in-Message.ensures.exact) in
-    item_then g.R.Reads.gives g.met.R.Reads.gives_in_order (request_of old) (known_of old) (known_in c.read_body.new.self) (begun_of old) (begun_bytes c.read_frame.new.begun) m d (Ok None)
+    item_then g.R.Reads.gives g.met.R.Reads.laws.in_order (request_of old) (known_of old) (known_in c.read_body.new.self) (begun_of old) (begun_bytes c.read_frame.new.begun) m d (Ok None)
     (device_of old) c.read_frame.new.reader c.read_body.new.reader some opens (rw c.in-Message.is at c.in_ok-read_frame.ensures.gives) (rw c.in-None.is at c.in_ok-read-in-Message.ensures.gives)
 
 pub returns-in-None-clause-held : goal.returns-in-None-clause-held
@@ -84,5 +84,5 @@ returns-in-None-clause-held g c =
     let d = header_seen c.in_ok-message-in-Message.message in
     let same : c.deref.result.now ≡ m = search rules in
     let some : header_of m ≡ Some d = subst (λ (l : List ℕ). header_of l ≡ Some d) same c.in_ok-message-in-Message.ensures.message in
-    kept_of_item g.R.Reads.gives g.met.R.Reads.gives_in_order (request_of old) d (begun_of old) (begun_bytes c.read_frame.new.begun) m (device_of old) c.read_frame.new.reader c.read_body.new.reader
+    kept_of_item g.R.Reads.gives g.met.R.Reads.laws.in_order (request_of old) d (begun_of old) (begun_bytes c.read_frame.new.begun) m (device_of old) c.read_frame.new.reader c.read_body.new.reader
     (values_of old) (values_in c.read_body.new.self) some (rw c.in-Message.is at c.in_ok-read_frame.ensures.gives) (rw c.in-None.is at c.in_ok-read-in-Message.ensures.held)

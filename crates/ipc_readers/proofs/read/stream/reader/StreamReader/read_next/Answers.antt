@@ -19,7 +19,7 @@ loop-chunk-preserved g c = record {
       let b = c.loop-chunk.self in
       let d = c.read_item.new.self in
       let here = same_request a b c.loop-chunk.invariant.on.described c.loop-chunk.invariant.on.projected in
-      kept_past g.R.Reads.gives (request_of a) (begun_of a) (device_of a) (values_of a) g.met.R.Reads.gives_in_order (begun_of b) (device_of b) (values_of b) c.loop-chunk.invariant.kept
+      kept_past g.R.Reads.gives (request_of a) (begun_of a) (device_of a) (values_of a) g.met.R.Reads.laws.in_order (begun_of b) (device_of b) (values_of b) c.loop-chunk.invariant.kept
       (begun_of d) (device_of d) (values_of d)
       (subst (λ (h : Request). KeptOfItem g.R.Reads.gives h (begun_of b) (device_of b) (Ok fronts.Dictionary) (begun_of d) (device_of d) (values_of b) (values_of d)) here
       (rw c.in-Dictionary.is at c.in_ok-read_item.ensures.held));
@@ -44,7 +44,7 @@ returns-in_err-read_item-clause-held g c =
     let here = same_request a b c.loop-chunk.invariant.on.described c.loop-chunk.invariant.on.projected in
     let item : ItemGave g.R.Reads.gives (request_of b) (known_of b) (begun_of b) (device_of b) (Err c.in_err-read_item.field-0.0) (known_of d) (begun_of d) (device_of d) =
     c.in_err-read_item.ensures.gives in
-    kept_out g.R.Reads.gives (request_of a) (begun_of a) (device_of a) (values_of a) g.met.R.Reads.gives_in_order (begun_of b) (device_of b) (values_of b) c.loop-chunk.invariant.kept
+    kept_out g.R.Reads.gives (request_of a) (begun_of a) (device_of a) (values_of a) g.met.R.Reads.laws.in_order (begun_of b) (device_of b) (values_of b) c.loop-chunk.invariant.kept
     (known_of b) (known_of d) (Err c.in_err-read_item.field-0.0) (begun_of d) (device_of d) (values_of d)
     (subst (λ (h : Request). ItemGave g.R.Reads.gives h (known_of b) (begun_of b) (device_of b) (Err c.in_err-read_item.field-0.0) (known_of d) (begun_of d) (device_of d)) here item)
     c.in_err-read_item.ensures.held
@@ -57,7 +57,7 @@ returns-in-Chunk-clause-held g c =
     let here = same_request a b c.loop-chunk.invariant.on.described c.loop-chunk.invariant.on.projected in
     let item : ItemGave g.R.Reads.gives (request_of b) (known_of b) (begun_of b) (device_of b) (Ok (fronts.Chunk c.in-Chunk.chunk)) (known_of d) (begun_of d) (device_of d) =
     (rw c.in-Chunk.is at c.in_ok-read_item.ensures.gives) in
-    kept_out g.R.Reads.gives (request_of a) (begun_of a) (device_of a) (values_of a) g.met.R.Reads.gives_in_order (begun_of b) (device_of b) (values_of b) c.loop-chunk.invariant.kept
+    kept_out g.R.Reads.gives (request_of a) (begun_of a) (device_of a) (values_of a) g.met.R.Reads.laws.in_order (begun_of b) (device_of b) (values_of b) c.loop-chunk.invariant.kept
     (known_of b) (known_of d) (Ok (fronts.Chunk c.in-Chunk.chunk)) (begun_of d) (device_of d) (values_of d)
     (subst (λ (h : Request). ItemGave g.R.Reads.gives h (known_of b) (begun_of b) (device_of b) (Ok (fronts.Chunk c.in-Chunk.chunk)) (known_of d) (begun_of d) (device_of d)) here item)
     (rw c.in-Chunk.is at c.in_ok-read_item.ensures.held)
@@ -70,7 +70,7 @@ returns-in-Mark-clause-held g c =
     let here = same_request a b c.loop-chunk.invariant.on.described c.loop-chunk.invariant.on.projected in
     let item : ItemGave g.R.Reads.gives (request_of b) (known_of b) (begun_of b) (device_of b) (Ok fronts.Mark) (known_of d) (begun_of d) (device_of d) =
     (rw c.in-Mark.is at c.in_ok-read_item.ensures.gives) in
-    kept_out g.R.Reads.gives (request_of a) (begun_of a) (device_of a) (values_of a) g.met.R.Reads.gives_in_order (begun_of b) (device_of b) (values_of b) c.loop-chunk.invariant.kept
+    kept_out g.R.Reads.gives (request_of a) (begun_of a) (device_of a) (values_of a) g.met.R.Reads.laws.in_order (begun_of b) (device_of b) (values_of b) c.loop-chunk.invariant.kept
     (known_of b) (known_of d) (Ok fronts.Mark) (begun_of d) (device_of d) (values_of d)
     (subst (λ (h : Request). ItemGave g.R.Reads.gives h (known_of b) (begun_of b) (device_of b) (Ok fronts.Mark) (known_of d) (begun_of d) (device_of d)) here item)
     (rw c.in-Mark.is at c.in_ok-read_item.ensures.held)
@@ -83,7 +83,7 @@ returns-in-Waiting-clause-held g c =
     let here = same_request a b c.loop-chunk.invariant.on.described c.loop-chunk.invariant.on.projected in
     let item : ItemGave g.R.Reads.gives (request_of b) (known_of b) (begun_of b) (device_of b) (Ok fronts.Waiting) (known_of d) (begun_of d) (device_of d) =
     (rw c.in-Waiting.is at c.in_ok-read_item.ensures.gives) in
-    kept_out g.R.Reads.gives (request_of a) (begun_of a) (device_of a) (values_of a) g.met.R.Reads.gives_in_order (begun_of b) (device_of b) (values_of b) c.loop-chunk.invariant.kept
+    kept_out g.R.Reads.gives (request_of a) (begun_of a) (device_of a) (values_of a) g.met.R.Reads.laws.in_order (begun_of b) (device_of b) (values_of b) c.loop-chunk.invariant.kept
     (known_of b) (known_of d) (Ok fronts.Waiting) (begun_of d) (device_of d) (values_of d)
     (subst (λ (h : Request). ItemGave g.R.Reads.gives h (known_of b) (begun_of b) (device_of b) (Ok fronts.Waiting) (known_of d) (begun_of d) (device_of d)) here item)
     (rw c.in-Waiting.is at c.in_ok-read_item.ensures.held)
@@ -92,5 +92,5 @@ pub loop-chunk-init : goal.loop-chunk-init
 loop-chunk-init g c = record {
   finished = refl;
   on = goes_same g.R.Reads.gives c.args.self.now;
-  kept = kept_same g.R.Reads.gives (request_of c.args.self.now) (begun_of c.args.self.now) (device_of c.args.self.now) (values_of c.args.self.now) g.met.R.Reads.gives_nothing;
+  kept = kept_same g.R.Reads.gives (request_of c.args.self.now) (begun_of c.args.self.now) (device_of c.args.self.now) (values_of c.args.self.now) g.met.R.Reads.laws.nothing;
 }
