@@ -111,7 +111,9 @@ fn begin_file<W: Writes + Drop>(
         (fields_view schema.fields.items)
         (pairs_of schema.metadata.entries) (all_ids_view ids.items) (pairs_of pairs.entries)
         (seen w)) }
-    ensures only { IfErr result (λ e. OwnFault e (WithPairsCause (fields_view schema.fields.items) (pairs_of schema.metadata.entries)
+    ensures only { IfErr result (λ e. OwnFault e
+        (WithPairsCause (fields_view schema.fields.items)
+        (pairs_of schema.metadata.entries)
         (all_ids_view ids.items) (pairs_of pairs.entries) e)) }
     ensures done { IfOk result (λ w. W.device.failures (seen w).device ≡ W.device.failures out) }
     ensures failed { OnIo result (OutputFails W.device out) }

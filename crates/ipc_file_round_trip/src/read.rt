@@ -78,7 +78,8 @@ fn read_by(
     ensures described { IfOk result (λ f. file_seen f.metadata ≡ file_seen metadata) }
     ensures chunks { GivesPart chunks_of result (file_chunks (file_seen metadata) bytes.now (items_of projection) limit) }
     ensures rows { IfOk result (λ f. HasFirstRows (file_seen metadata) bytes.now (items_of projection) limit (chunks_of f)) }
-    ensures reason { IfErr result (λ e. OwnFault e (FileChunksCause (file_seen metadata) bytes.now (items_of projection) limit e)) }
+    ensures reason { IfErr result (λ e. OwnFault e
+        (FileChunksCause (file_seen metadata) bytes.now (items_of projection) limit e)) }
     ensures device { OnIo result ⊥ }
 {
     let copy = metadata.clone()?;

@@ -24,8 +24,10 @@ pub(crate) fn plan_list<'a>(
 ) -> Result<(), Fault>
     requires small { plan.old.end < 2 ^ 63 }
     requires inside { offset + len ≤ span_count array.now.offsets }
-    ensures small { OnOk result (Adds plan.old plan.new (written_levels (list_layout_as Int32 array.now) offset len)) }
-    ensures large { OnOk result (Adds plan.old plan.new (written_levels (list_layout_as Int64 array.now) offset len)) }
+    ensures small { OnOk result (Adds plan.old plan.new
+        (written_levels (list_layout_as Int32 array.now) offset len)) }
+    ensures large { OnOk result (Adds plan.old plan.new
+        (written_levels (list_layout_as Int64 array.now) offset len)) }
     ensures takes { TakesLevels result (written_levels (list_layout array.now) offset len) plan.old.end plan.new.end }
 {
     let offsets = list_offsets(array.offsets());

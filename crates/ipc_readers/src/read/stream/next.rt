@@ -100,7 +100,8 @@ impl Batches {
         ensures described { self.new.metadata ≡ self.old.metadata }
         ensures projected { self.new.projection ≡ self.old.projection }
         ensures counted { OnOk result (self.new.count ≡ self.old.count + 1) }
-        ensures held { KeptOfBatch (request_in self.old) (record { tag = 2; table = batch.entry; body = length body.now })
+        ensures held { KeptOfBatch (request_in self.old)
+            (record { tag = 2; table = batch.entry; body = length body.now })
             (of_dictionary result) (values_in self.old) (values_in self.new) }
         ensures kept { OnErr result (AreAt (known_in self.old) (known_in self.new)) }
         ensures only { IfErr result (λ e. OwnFault e (IsStreamFault (request_in self.old) e)) }
@@ -191,7 +192,8 @@ impl Batches {
         ensures projected { self.new.projection ≡ self.old.projection }
         ensures counted { IfOk result (λ c. Counted c self.old.count self.new.count) }
         ensures values { IfOk result (λ c. BodyHasValues self.new c) }
-        ensures held { KeptOfBody R.gives (request_in self.old) (header_seen message.entry) reader.old result reader.new
+        ensures held { KeptOfBody R.gives (request_in self.old)
+            (header_seen message.entry) reader.old result reader.new
             (values_in self.old) (values_in self.new) }
         ensures kept { OnErr result (AreAt (known_in self.old) (known_in self.new)) }
         ensures only { IfErr result (λ e. OwnFault e (IsStreamFault (request_in self.old) e)) }
@@ -298,7 +300,8 @@ impl<R: Reads + Drop> StreamReader<R> {
         ensures projected { chosen_of self.new ≡ chosen_of self.old }
         ensures counted { IfOk result (λ f. CountsOn f (known_of self.old).count (known_of self.new).count) }
         ensures values { IfOk result (λ f. FrontHasValues self.new.batches f) }
-        ensures held { KeptOfItem R.gives (request_of self.old) (begun_of self.old) (device_of self.old) result
+        ensures held { KeptOfItem R.gives (request_of self.old) (begun_of self.old)
+            (device_of self.old) result
             (begun_of self.new) (device_of self.new) (values_of self.old) (values_of self.new) }
         ensures kept { OnErr result (AreAt (known_of self.old) (known_of self.new)) }
         ensures gives { ItemGave R.gives (request_of self.old) (known_of self.old) (begun_of self.old)
@@ -327,7 +330,8 @@ impl<R: Reads + Drop> StreamReader<R> {
         ensures described { metadata_of self.new ≡ metadata_of self.old }
         ensures projected { chosen_of self.new ≡ chosen_of self.old }
         ensures values { IfOk result (λ state. StateHasValues self.new.batches state) }
-        ensures held { KeepsValues R.gives (request_of self.old) (begun_of self.old) (device_of self.old) (device_of self.new)
+        ensures held { KeepsValues R.gives (request_of self.old) (begun_of self.old)
+            (device_of self.old) (device_of self.new)
             (values_of self.old) (values_of self.new) }
         ensures gives { NextGave R.gives (request_of self.old) (known_of self.old) (begun_of self.old)
             (device_of self.old) result (known_of self.new) (begun_of self.new) (device_of self.new) }
