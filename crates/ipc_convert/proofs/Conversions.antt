@@ -90,24 +90,24 @@ stream_streamed gives d order law input device last out end m shown r c ids u v 
 
 -- The chunks that were read of a file are all of it.
 chunks_of : {F T : Type 0} (d : Device F) (took : Moved T) (file device : F) (m : FileMetadata) (r c : FileReader F) (v w : T) (ending : Ending)
-    → IsTrue d.is_memory → (d.memory device).whole ≡ (d.memory file).whole → blocks.IsUnread device m None None r → (copied : Copied (FileCame d) FileStopped took r v ending c w)
+    → IsTrue d.is_memory → (d.memory device).whole ≡ (d.memory file).whole → blocks.IsUnread device m None None r → (copied : Copied (FileCame d) (FileStopped d) took r v ending c w)
     → HasBlockChunks (d.memory file).whole (file_seen m) copied.handed.chunks
 chunks_of d took file device m r c v w ending k same begins copied =
     subst (λ (bytes : List ℕ). HasBlockChunks bytes (file_seen m) copied.handed.chunks) same
-    (all_blocks d device m r copied.last copied.handed.chunks begins (copied.handed.came_all k (new_whole d device m r begins)) copied.stops.1)
+    (all_blocks d device m r copied.last copied.handed.chunks begins (copied.handed.came_all.gave k (new_whole d device m r begins)) copied.stops.1)
 
 pub file_streamed : {F W : Type 0} (held : Device F) (d : Device W) (order : Endianness)
     → (file device : F) (out end : W) (m shown : FileMetadata) (r c : FileReader F) (ids : IdTrees) (u v w x : StreamWriter W) (ending : Ending) (y : Unit {0})
     → IsTrue held.is_memory → IsTrue d.is_memory → metadata_of (held.memory file).whole ≡ Some (file_seen m) → (held.memory device).whole ≡ (held.memory file).whole → blocks.IsUnread device m None None r → shown ≡ m → ids ≡ all_ids_view m.ipc_schema.fields.items
     → (seen u).device ≡ out → (seen u).order ≡ order → streams.IsFresh d (seen u)
     → streams.BeginsStream d (seen u) (Ok y) (seen v) (written_head_as (seen u).order (fields_view shown.schema.fields.items) (pairs_of shown.schema.metadata.entries) ids)
-    → (seen v).state ≡ Started → Copied (FileCame held) FileStopped (StreamTook d) r v ending c w
+    → (seen v).state ≡ Started → Copied (FileCame held) (FileStopped held) (StreamTook d) r v ending c w
     → EndsAsSource d ending (seen w) (seen x) → end ≡ (seen x).device
     → CopiesFile (held.memory file).whole (λ schema pairs chunks. WritesStream order (d.memory out) (d.memory end) schema chunks marked)
 file_streamed held d order file device out end m shown r c ids u v w x ending y t k read same begins is i at ordered fresh begun started copied ends same_end =
     let schema = (file_seen m).schema in
     let cs = copied.handed.chunks in
-    let done = to_stream d order out schema (FileCame held) FileStopped r c (fields_view shown.schema.fields.items) (pairs_of shown.schema.metadata.entries) ids u v w x ending y
+    let done = to_stream d order out schema (FileCame held) (FileStopped held) r c (fields_view shown.schema.fields.items) (pairs_of shown.schema.metadata.entries) ids u v w x ending y
     k (ap (λ (s : FileMetadata). fields_view s.schema.fields.items) is) (ap (λ (s : FileMetadata). pairs_of s.schema.metadata.entries) is) i at ordered fresh begun started copied ends in
     let left : LeftAt true (seen x).state = subst (λ (e : Ending). LeftAt (is_end e) (seen x).state) copied.stops.0 done.0 in
     file_copied (held.memory file).whole (file_seen m) cs (λ schema pairs chunks. WritesStream order (d.memory out) (d.memory end) schema chunks marked) read
@@ -136,11 +136,11 @@ pub file_filed : {F W : Type 0} (held : Device F) (d : Device W) (order : Endian
     → IsTrue held.is_memory → IsTrue d.is_memory → metadata_of (held.memory file).whole ≡ Some (file_seen m) → (held.memory device).whole ≡ (held.memory file).whole → blocks.IsUnread device m None None r
     → fields ≡ fields_view m.schema.fields.items → metadata ≡ pairs_of m.schema.metadata.entries → ids ≡ all_ids_view m.ipc_schema.fields.items → given ≡ pairs_of m.custom_metadata.entries
     → BeginsFile d out order fields metadata ids given (files.seen v)
-    → IfOk result (λ e. Copied (FileCame held) FileStopped (FileTook d) r v e c w) → EndsCopy d result ending (files.seen w) (files.seen x)
+    → IfOk result (λ e. Copied (FileCame held) (FileStopped held) (FileTook d) r v e c w) → EndsCopy d result ending (files.seen w) (files.seen x)
     → end ≡ (files.seen x).device → CopiesFile (held.memory file).whole (WritesFile order (d.memory out) (d.memory end))
 file_filed held d order file device out end m r c fs es ids given v w x result ending t k read same begins f s i p begun all ends same_end =
-    let copied : Copied (FileCame held) FileStopped (FileTook d) r v ending c w =
-    subst (λ (o : Result Ending Fault). IfOk o (λ e. Copied (FileCame held) FileStopped (FileTook d) r v e c w)) ends.all all in
+    let copied : Copied (FileCame held) (FileStopped held) (FileTook d) r v ending c w =
+    subst (λ (o : Result Ending Fault). IfOk o (λ e. Copied (FileCame held) (FileStopped held) (FileTook d) r v e c w)) ends.all all in
     let schema = (file_seen m).schema in
     let cs = copied.handed.chunks in
     file_copied (held.memory file).whole (file_seen m) cs (WritesFile order (d.memory out) (d.memory end)) read

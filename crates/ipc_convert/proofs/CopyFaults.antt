@@ -135,6 +135,7 @@ same_begun d out order fs given es held ids are pairs those w f m i p b = record
   ids_are = b.ids_are ∙ i;
   pairs_are = b.pairs_are ∙ p;
   agrees = b.agrees;
+  names = b.names;
 }
 
 -- pairs that a new writer refuses
@@ -205,7 +206,7 @@ module _ {W : Type 0} (to : Device W) (opened : FileSeen W → Type 0) (v w x : 
       (read : model.metadata_of (d.memory file).whole ≡ Some (file_seen m)) (unchanged : (d.memory device).whole ≡ (d.memory file).whole) (begins : blocks.IsUnread device m None None r)
       (refuses : (List Chunk → Type 0) → Schema → Pairs → Fault → Type 0) (told : (first : List Chunk → Type 0) → InBlocksCause to opened first e → refuses first (file_seen m).schema (file_seen m).pairs e) where
     pub file_blocks_stop : (copied : Result Ending Fault) → IfErr copied (λ y. OwnFault y (StopsCopy (FileCame d) (NextOfFileCause d) (FileTook to) FileWriterCause r v y))
-        → IfOk copied (λ ending. Copied (FileCame d) FileStopped (FileTook to) r v ending c w) → EndsAnyway to copied (Err e) (files.seen w) (files.seen x)
+        → IfOk copied (λ ending. Copied (FileCame d) (FileStopped d) (FileTook to) r v ending c w) → EndsAnyway to copied (Err e) (files.seen w) (files.seen x)
         → OwnFault e (CopyFileCause refuses (d.memory file).whole e)
     file_blocks_stop copied stops all anyway = own e (CopyFileCause refuses (d.memory file).whole e) (λ it.
         elim (ended_by to copied e (files.seen w) (files.seen x) anyway) [
@@ -213,7 +214,7 @@ module _ {W : Type 0} (to : Device W) (opened : FileSeen W → Type 0) (v w x : 
               let stopped = it _ (subst (λ (o : Result Ending Fault). IfErr o (λ y. OwnFault y (StopsCopy (FileCame d) (NextOfFileCause d) (FileTook to) FileWriterCause r v y))) refused stops) in
               file_stopped d k file device m r e read unchanged begins refuses (FileTook to) FileWriterCause v (FileTakeCause to opened e) not_taken (λ first no. told first (inl no)) stopped
           | inr ended ↦
-              let done = subst (λ (o : Result Ending Fault). IfOk o (λ ending. Copied (FileCame d) FileStopped (FileTook to) r v ending c w)) ended.1 all in
+              let done = subst (λ (o : Result Ending Fault). IfOk o (λ ending. Copied (FileCame d) (FileStopped d) (FileTook to) r v ending c w)) ended.1 all in
               blocks_refused d k file device m r e read unchanged begins refuses done.handed.chunks done.last done.handed.came_all (λ first are. told first (inr (record {
                 chunks = done.handed.chunks;
                 are_first = are;

@@ -1,3 +1,4 @@
+pub mod Answered
 pub mod AppendFaults
 pub mod Appended
 pub mod Conversions
@@ -9,5 +10,6 @@ pub mod Own
 pub mod ReadFiles
 pub mod ReadStreams
 pub mod Refused
+pub mod SameDevices
 pub mod Taken
 pub mod Unfailed

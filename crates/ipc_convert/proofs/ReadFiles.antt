@@ -113,7 +113,10 @@ module _ {R : Type 0} (d : Device R) (stays : IsTrue d.is_memory → IsTrue d.is
       }
 
   pub block_came : (a b : FileReader R) (xs : List AnyArray) → Step a (Some (Ok xs)) b → FileCame d a (chunk_seen xs ∷ []) b
-  block_came a b xs step = λ k whole. step_on a b xs k whole step (step.next (unfinished (is_over a) (Ok xs) (λ over. (step.over over).0)))
+  block_came a b xs step = record {
+    gave = λ k whole. step_on a b xs k whole step (step.next (unfinished (is_over a) (Ok xs) (λ over. (step.over over).0)));
+    names = step.device.names;
+  }
 
   over_none : (a b : FileReader R) (o : Bool) → is_over a ≡ o → Step a None b → is_over a ≡ true
   over_none a b true is step = is

@@ -193,12 +193,12 @@ module _ {F : Type 0} (d : Device F) (k : IsTrue d.is_memory) (file device : F) 
   pub blocks_refused : (cs : List Chunk) (c : FileReader F) → FileCame d r cs c → ((first : List Chunk → Type 0) → first cs → refuses first (file_seen m).schema (file_seen m).pairs e) → WhyFile
   blocks_refused cs c came refused =
       held_back (inr (refused (AreFirstBlocks (d.memory file).whole (file_seen m))
-      (of_file (λ bytes f. AreFirstBlocks bytes f cs) (first_blocks d r c cs begins.block (came k (new_whole d device m r begins))))))
+      (of_file (λ bytes f. AreFirstBlocks bytes f cs) (first_blocks d r c cs begins.block (came.gave k (new_whole d device m r begins))))))
 
   -- After these chunks a part of the file has no meaning.
   part_lacks : (cs : List Chunk) (b : FileReader F) → FileCame d r cs b → NextOfFileCause d b e → WhyFile
   part_lacks cs b came breaks =
-      let gave = came k (new_whole d device m r begins) in
+      let gave = came.gave k (new_whole d device m r begins) in
       held_back (inl (of_file (λ bytes f. FilePartCause f bytes e)
       (subst (λ (xs : List ℕ). FilePartCause (blocks.file_of r) xs e) gave.bytes (subst (λ (f : model.FileMetadata). FilePartCause f (bytes_of d b) e) gave.file (breaks k gave.whole)))))
 

@@ -47,19 +47,20 @@ written_seen [] = refl
 written_seen (x ∷ xs) = ap (λ (cs : Chunk). column_written (layout_of x) ∷ cs) (written_seen xs)
 
 one_took : {W : Type 0} (d : Device W) (v w : WriterSeen W) (columns : List AnyArray) (ids : Option IdTrees) (x : Unit {0})
-    → streams.Appends d v (Ok x) w (chunk_written columns) → TakesChunk v w columns ids → TookChunks d v (chunk_seen columns ∷ []) w
-one_took d v w columns ids x appends takes = record {
+    → streams.Appends d v (Ok x) w (chunk_written columns) → TakesChunk v w columns ids → d.names w.device ≡ d.names v.device → TookChunks d v (chunk_seen columns ∷ []) w
+one_took d v w columns ids x appends takes named = record {
   state = takes.is ∙ sym takes.was;
   types = takes.types;
   ids = takes.ids_stay;
   stream = λ k base head so_far agrees.
       subst (λ (c : Chunk). Agrees d w base head (so_far ++ c ∷ [])) (written_seen columns) (appends.appended k base head so_far agrees);
+  names = named;
 }
 
 pub stream_took : {W : Type 0} (d : Device W) (v w : WriterSeen W) (columns : List AnyArray) (ids : Option IdTrees) (r : Result (Unit {0}) Fault)
-    → streams.Appends d v r w (chunk_written columns) → OnOk r (TakesChunk v w columns ids) → OnOk r (TookChunks d v (chunk_seen columns ∷ []) w)
-stream_took d v w columns ids (Ok x) appends takes = one_took d v w columns ids x appends takes
-stream_took d v w columns ids (Err e) appends takes = tt
+    → streams.Appends d v r w (chunk_written columns) → OnOk r (TakesChunk v w columns ids) → d.names w.device ≡ d.names v.device → OnOk r (TookChunks d v (chunk_seen columns ∷ []) w)
+stream_took d v w columns ids (Ok x) appends takes named = one_took d v w columns ids x appends takes named
+stream_took d v w columns ids (Err e) appends takes named = tt
 
 pub file_took : {W : Type 0} (d : Device W) (v w : FileSeen W) (columns : List AnyArray) (r : Result (Unit {0}) Fault)
     → WritesNext d v columns r w → writes.SendsColumns d v r w columns → OnOk r (TookBlocks d v (chunk_seen columns ∷ []) w)
@@ -77,12 +78,13 @@ if_refused (Err e) f p = refused_then (Unit {0}) (Unit {0}) e (f e refl) p
 
 -- Nothing was written if all that the writer had stays.
 none_took : {W : Type 0} (d : Device W) (v w : WriterSeen W) → w.state ≡ v.state → w.types ≡ v.types → w.ids ≡ v.ids
-    → (IsTrue d.is_memory → (base : List ℕ) (head : Head) (so_far : List Chunk) → Agrees d v base head so_far → Agrees d w base head so_far) → TookChunks d v [] w
-none_took d v w state types ids stays = record {
+    → (IsTrue d.is_memory → (base : List ℕ) (head : Head) (so_far : List Chunk) → Agrees d v base head so_far → Agrees d w base head so_far) → d.names w.device ≡ d.names v.device → TookChunks d v [] w
+none_took d v w state types ids stays named = record {
   state = state;
   types = types;
   ids = ids;
   stream = λ k base head so_far agrees. subst (λ (cs : List Chunk). Agrees d w base head cs) (sym (append-nil so_far)) (stays k base head so_far agrees);
+  names = named;
 }
 
 pub stream_kept : {W : Type 0} (d : Device W) (v w : WriterSeen W) (columns : List AnyArray) (r : Result (Unit {0}) Fault)
@@ -90,7 +92,8 @@ pub stream_kept : {W : Type 0} (d : Device W) (v w : WriterSeen W) (columns : Li
 stream_kept d v w columns r appends sends =
     if_refused r (λ e is kept.
     none_took d v w kept.state kept.types kept.ids
-    (λ k base head so_far agrees. subst (λ (x : Result (Unit {0}) Fault). OnErr x (Agrees d w base head so_far)) is (appends.kept k base head so_far agrees)))
+    (λ k base head so_far agrees. subst (λ (x : Result (Unit {0}) Fault). OnErr x (Agrees d w base head so_far)) is (appends.kept k base head so_far agrees))
+    sends.step.names)
     sends.step.refused
 
 took_none : {W : Type 0} (d : Device W) (v w : FileSeen W) (columns : List AnyArray) (e : Fault) → WritesNext d v columns (Err e) w → TakesChunks d v w []
@@ -154,6 +157,12 @@ ended_stream {W = W} d order out schema cs Waits v w x k started same is holds =
 ended_stream d order out schema cs Over v w x k started same ends holds =
     (ends.0, ends.1.kept k (before (d.memory out)) (normal_head order schema) (normal_chunks cs) holds)
 
+-- A call of `finish` ends a stream, if it is Ok.
+pub ended_over : {W : Type 0} (d : Device W) (a b : WriterSeen W) (r : Result (Unit {0}) Fault) → OnOk r ((a.state ≡ Started) × (b.state ≡ Finished)) → streams.Remains d a b
+    → d.names b.device ≡ d.names a.device → OnOk r (IsTrue (d.is_flushed b.device)) → OnOk r (EndsAsSource d Over a b)
+ended_over d a b (Ok x) closed remains named done = (closed.1, remains, named, done)
+ended_over d a b (Err e) closed remains named done = tt
+
 pub stream_written : {W : Type 0} (d : Device W) (order : Endianness) (out last : W) (schema : Schema) (cs : List Chunk) (w : WriterSeen W) (over : Bool) (e : End) → last ≡ w.device
     → LeftAt over w.state → Holds d order out schema cs w → EndsAs over e → WritesStream order (d.memory out) (d.memory last) schema cs e
 stream_written {W = W} d order out last schema cs w over e at left holds is = record {
@@ -201,6 +210,7 @@ file_begun {W = W} d out big fs es ids pairs u t v x at nothing is takes kept se
           let base = before (d.memory out) in
           let first : HoldsBytes true (d.memory u.device) u base [] = subst (λ (y : W). HoldsBytes true (d.memory u.device) u (before (d.memory y)) []) at nothing.agrees in
           remains.kept k true base [] (kept.kept k true base [] first);
+      names = sends.step.names ∙ ap d.names (takes.device ∙ at);
     }
 
 pub file_written_so : {W : Type 0} (d : Device W) (order : Endianness) (out last : W) (schema : Schema) (pairs given : Pairs) (fields : FieldTrees) (metadata : Pairs) (ids : IdTrees)

@@ -57,10 +57,9 @@ takes_unfailed gives failures law a b h =
 
 -- ---- from call to call
 
--- Five states of a device that is lent and given back.
-pub handed_unfailed : {W : Type 0} (failures : W → ℕ) (first u v w x last : W) → u ≡ first → failures v ≡ failures u → failures w ≡ failures v → failures x ≡ failures w → last ≡ x
-    → failures last ≡ failures first
-handed_unfailed failures first u v w x last begins one two three ends = ap failures ends ∙ three ∙ two ∙ one ∙ ap failures begins
+-- What stays in five states of a device that is passed on and returned.
+pub stays_handed : {W X : Type 0} (part : W → X) (first u v w x last : W) → u ≡ first → part v ≡ part u → part w ≡ part v → part x ≡ part w → last ≡ x → part last ≡ part first
+stays_handed part first u v w x last begins one two three ends = ap part ends ∙ three ∙ two ∙ one ∙ ap part begins
 
 -- what holds of a copy that was Ok
 pub where_ok : (P : Type 0) (copied : Result Ending Fault) (ending : Ending) → copied ≡ Ok ending → OnOk copied P → P

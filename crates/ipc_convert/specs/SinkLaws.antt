@@ -26,6 +26,7 @@ took_chunks d u v w xs ys one more = record {
   stream = λ k base head so_far agrees.
       subst (λ (cs : List Chunk). Agrees d w base head cs) (more_taken so_far xs ys)
       (more.stream k base head (so_far ++ normal_chunks xs) (one.stream k base head so_far agrees));
+  names = more.names ∙ one.names;
 }
 
 pub stream_took_nothing : {W : Type 0} (d : Device W) → Nothing (StreamTook d)
@@ -34,6 +35,7 @@ stream_took_nothing d a = record {
   types = refl;
   ids = refl;
   stream = λ k base head so_far agrees. subst (λ (cs : List Chunk). Agrees d (seen a) base head cs) (sym (append-nil so_far)) agrees;
+  names = refl;
 }
 
 pub stream_took_in_order : {W : Type 0} (d : Device W) → MovedInTurn (StreamTook d)

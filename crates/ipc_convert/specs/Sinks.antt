@@ -15,13 +15,14 @@ use Rattle.ipc_convert.specs.Copies.{normal_chunks}
 use Rattle.ipc_devices.specs.Device.{Device}
 
 -- From state v to w a writer wrote these chunks: its stream has them in the normal form. It
--- accepts the same columns as before.
+-- accepts the same columns as before, and has the same device.
 pub record TookChunks {W : Type 0} (d : Device W) (v : WriterSeen W) (cs : List Chunk) (w : WriterSeen W) : Type 0 where
   pub state : w.state ≡ v.state
   pub types : w.types ≡ v.types
   pub ids : w.ids ≡ v.ids
   pub stream : IsTrue d.is_memory → (base : List ℕ) (head : Head) (so_far : List Chunk) → Agrees d v base head so_far
       → Agrees d w base head (so_far ++ normal_chunks cs)
+  pub names : d.names w.device ≡ d.names v.device
 
 -- A stream writer wrote these chunks.
 abbrev pub StreamTook : {W : Type 0} → Device W → Moved (StreamWriter W)
@@ -33,7 +34,7 @@ abbrev pub StreamTakeCause : {W : Type 0} → RefusesAt (StreamWriter W)
 StreamTakeCause v columns e = WritesExactly (seen v) columns None (Err e) × RefusesWrite (seen v) columns None e
 
 -- A file writer wrote these chunks: the file has exactly these more, in the normal form, and no
--- byte before the writer's offset changed.
+-- byte before the writer's offset changed. The writer has the same device, as `takes` says.
 pub record TookBlocks {W : Type 0} (d : Device W) (v : files.FileSeen W) (cs : List Chunk) (w : files.FileSeen W) : Type 0 where
   pub state : w.state ≡ v.state
   pub takes : TakesChunks d v w (normal_chunks cs)

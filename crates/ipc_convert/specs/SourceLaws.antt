@@ -59,13 +59,16 @@ stream_came_in_order gives law a xs b ys c one more = record {
 -- ---- a file
 
 pub file_came_nothing : {R : Type 0} (d : Device R) → Nothing (FileCame d)
-file_came_nothing d a = λ k whole. record {
-  file = refl;
-  bytes = refl;
-  whole = whole;
-  block = omega arith;
-  some = inl refl;
-  chunks = λ ds so_far found first. subst (λ (cs : List Chunk). FirstAre (files.file_of a) ds (bytes_of d a) (files.block_of a) cs) (sym (append-nil so_far)) first;
+file_came_nothing d a = record {
+  gave = λ k whole. record {
+    file = refl;
+    bytes = refl;
+    whole = whole;
+    block = omega arith;
+    some = inl refl;
+    chunks = λ ds so_far found first. subst (λ (cs : List Chunk). FirstAre (files.file_of a) ds (bytes_of d a) (files.block_of a) cs) (sym (append-nil so_far)) first;
+  };
+  names = refl;
 }
 
 -- What holds of a file holds of an equal one.
@@ -104,6 +107,9 @@ gave_blocks d a b c xs ys one more = record {
 }
 
 pub file_came_in_order : {R : Type 0} (d : Device R) → MovedInTurn (FileCame d)
-file_came_in_order d a xs b ys c one more = λ k whole.
-    let first = one k whole in
-    gave_blocks d a b c xs ys first (more k first.whole)
+file_came_in_order d a xs b ys c one more = record {
+  gave = λ k whole.
+      let first = one.gave k whole in
+      gave_blocks d a b c xs ys first (more.gave k first.whole);
+  names = more.names ∙ one.names;
+}

@@ -129,13 +129,19 @@ pub record GaveBlocks {R : Type 0} (d : Device R) (a : FileReader R) (cs : List 
       → FirstAre (files.file_of a) known (bytes_of d a) (files.block_of a) so_far
       → FirstAre (files.file_of a) known (bytes_of d a) (files.block_of b) (so_far ++ cs)
 
--- A file reader that reads all of each chunk read these chunks.
-abbrev pub FileCame : {R : Type 0} → Device R → Moved (FileReader R)
-FileCame d a cs b = IsTrue d.is_memory → ReadsWhole d a → GaveBlocks d a cs b
+-- From state a to b a file reader read these chunks from the same device: in memory those at the
+-- next blocks, if it reads all of each chunk.
+pub record CameBlocks {R : Type 0} (d : Device R) (a : FileReader R) (cs : List Chunk) (b : FileReader R) : Type 0 where
+  pub gave : IsTrue d.is_memory → ReadsWhole d a → GaveBlocks d a cs b
+  pub names : d.names (files.device_of b) ≡ d.names (files.device_of a)
 
--- A file reader is after its last block, and no chunk comes.
-abbrev pub FileStopped : {R : Type 0} → FileReader R → Ending → FileReader R → Type 0
-FileStopped a ending b = (ending ≡ Over) × (files.is_over a ≡ true)
+-- A file reader read these chunks.
+abbrev pub FileCame : {R : Type 0} → Device R → Moved (FileReader R)
+FileCame d a cs b = CameBlocks d a cs b
+
+-- A file reader is after its last block, and no chunk comes. It has the same device.
+abbrev pub FileStopped : {R : Type 0} → Device R → FileReader R → Ending → FileReader R → Type 0
+FileStopped d a ending b = (ending ≡ Over) × (files.is_over a ≡ true) × (d.names (files.device_of b) ≡ d.names (files.device_of a))
 
 -- The dictionaries of a file have no meaning, and the error is that of the
 -- first faulty dictionary block.

@@ -17,13 +17,14 @@ use Rattle.ipc_file_write.specs.FileWriters.{Agrees, AnswersFinish, EndsWith, Fi
 use Rattle.ipc_convert.specs.declared.chunks.Ending.{Ending}
 use Rattle.ipc_convert.specs.declared.chunks.Ending.TheVariants.{Over, Waits}
 
--- The copy ends with the mark if its source has ended; if the source waits, nothing is written.
+-- The copy ends with the mark if its source has ended, on the same device, which keeps nothing
+-- back. If the source waits, nothing is written.
 abbrev pub EndsAsSource : {W : Type 0} → Device W → Ending → (a b : WriterSeen W) → Type 0
 EndsAsSource d Waits a b = b ≡ a
-EndsAsSource d Over a b = (b.state ≡ Finished) × streams.Remains d a b
+EndsAsSource d Over a b = (b.state ≡ Finished) × streams.Remains d a b × (d.names b.device ≡ d.names a.device) × IsTrue (d.is_flushed b.device)
 
--- A file writer has begun a file of this schema with its ids, this byte order and these
--- pairs, and has written no chunk.
+-- A file writer has begun a file on this device, of this schema with its ids, this byte order and
+-- these pairs, and has written no chunk.
 pub record BeginsFile {W : Type 0} (d : Device W) (out : W) (order : Endianness) (fields : FieldTrees) (metadata : Pairs) (ids : IdTrees) (pairs : Pairs) (w : FileSeen W) : Type 0 where
   pub state : w.state ≡ Started
   pub order_is : w.order ≡ order
@@ -32,6 +33,7 @@ pub record BeginsFile {W : Type 0} (d : Device W) (out : W) (order : Endianness)
   pub ids_are : w.ids ≡ ids
   pub pairs_are : w.pairs ≡ pairs
   pub agrees : IsTrue d.is_memory → Agrees d w (before (d.memory out)) []
+  pub names : d.names w.device ≡ d.names out
 
 -- Why a file isn't begun: the schema can't be written with its ids, or is too heavy with the pairs.
 abbrev pub WithPairsCause : FieldTrees → Pairs → IdTrees → Pairs → Fault → Type 0

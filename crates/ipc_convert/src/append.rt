@@ -46,7 +46,8 @@ use std::alloc::Global;
 ///
 /// If the file is in memory, each error but `Memory` and `Io` names a condition that is true. `Io`
 /// comes only if a call of one of the devices failed, or if the file is in memory and its growth
-/// was refused. An error drops both devices: pass `&mut` to keep what was written.
+/// was refused. It is the error that the device returned. An error drops both devices: pass `&mut`
+/// to keep what was written.
 pub fn append_stream<F: Reads + Writes + Seeks + Drop, R: Reads + Drop>(
     alloc: Global,
     file: F,

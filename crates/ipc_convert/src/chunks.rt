@@ -1,7 +1,7 @@
 //! Copies chunks in order.
-ghost use Rattle.std.specs.Prelude.{◌≡◌, ℕ, ◌∷◌, [], IfErr, IfOk, List, OnOk};
+ghost use Rattle.std.specs.Prelude.{◌≡◌, ◌⊎◌, ℕ, ◌∷◌, [], IfErr, IfOk, List, OnOk};
 ghost use Rattle.ipc_devices.specs.Device.{Rises};
-ghost use Rattle.ipc_devices.specs.Faults.{OnIo, OnRefused, OwnFault};
+ghost use Rattle.ipc_devices.specs.Faults.{IfIo, OnIo, OnRefused, OwnFault};
 ghost use Rattle.ipc_model.specs.Batches.{Chunk as ChunkMeant};
 ghost use Rattle.ipc_read.specs.Chunks.{chunk_seen};
 ghost use Rattle.ipc_convert.specs.Chunks.{CameNext, Copied, CopiedOne, MovedInTurn, NoneFailed, Nothing, StopsCopy, StopsOne, TookWhatCame};
@@ -31,6 +31,7 @@ pub enum Next {
 
 /// Something that chunks are read from.
 pub trait Source {
+    ghost use Rattle.std.specs.declared.io.Error.{Error};
     ghost use Rattle.ipc_convert.specs.declared.chunks.Ending.{Ending};
     ghost use Rattle.ipc_devices.specs.declared.fault.Fault.{Fault};
 
@@ -46,14 +47,18 @@ pub trait Source {
     // How many calls of the device failed.
     ghost failures: { Self → ℕ };
 
+    // Which errors the device returned.
+    ghost answered: { Error → Type 0 };
+
     /// The next chunk, or how the source ended.
     ///
     /// On `Ok` no call of the device failed. An error other than `Memory` and `Io` comes only as
-    /// `breaks` says; `Io` only if a call of the device failed.
+    /// `breaks` says; `Io` only if a call of the device failed, which returned this error.
     fn next_chunk(&mut self) -> Result<Next, Fault>
         ensures came { IfOk result (λ next. CameNext came stopped self.old next self.new) }
         ensures done { OnOk result (failures self.new ≡ failures self.old) }
         ensures failed { OnIo result (Rises (failures self.old) (failures self.new)) }
+        ensures answered { IfIo result answered }
         ensures broken { IfErr result (λ e. OwnFault e (breaks self.old e)) };
 
     // Lemmas: nothing comes without a call; what came in two steps is joined.
@@ -64,6 +69,7 @@ pub trait Source {
 
 /// Something that chunks are written to.
 pub trait Sink {
+    ghost use Rattle.std.specs.declared.io.Error.{Error};
     ghost use Rattle.ipc_devices.specs.declared.fault.Fault.{Fault};
     ghost use Rattle.lower_arrays.specs.declared.array.AnyArray.{AnyArray};
 
@@ -79,15 +85,19 @@ pub trait Sink {
     // Between two states a call of the device failed, or memory's growth was refused.
     ghost fails: { Self → Self → Type 0 };
 
+    // Which errors the device returned.
+    ghost answered: { Error → Type 0 };
+
     /// Takes a chunk.
     ///
     /// On `Ok` no call of the device failed. An error other than `Io` changes nothing. An error
     /// other than `Memory` and `Io` comes only as `refuses` says. `Io` comes only if a call of the
-    /// device failed, or if it is memory whose growth was refused.
+    /// device failed, or if it is memory whose growth was refused; the device returned this error.
     fn take_chunk(&mut self, chunk: &Chunk<AnyArray>) -> Result<(), Fault>
         ensures taken { OnOk result (took self.old (chunk_seen chunk.now ∷ []) self.new) }
         ensures done { OnOk result (failures self.new ≡ failures self.old) }
         ensures failed { OnIo result (fails self.old self.new) }
+        ensures answered { IfIo result answered }
         ensures kept { OnRefused result (took self.old [] self.new) }
         ensures refused { IfErr result (λ e. OwnFault e (refuses self.old chunk.now e)) };
 
@@ -106,7 +116,7 @@ pub trait Sink {
 /// - That of the sink for a chunk that it refused.
 /// - `Argument(TooLarge)`: `2^64 - 1` chunks came and no end.
 /// - `Io` only if a call of one of the devices failed, or if the sink is memory whose growth was
-///   refused.
+///   refused. That device returned this error.
 ///
 /// After an error other than `Io` the chunks that were written are the first that came.
 pub fn copy_chunks<S: Source, T: Sink>(source: &mut S, sink: &mut T) -> Result<Ending, Fault>
@@ -116,6 +126,7 @@ pub fn copy_chunks<S: Source, T: Sink>(source: &mut S, sink: &mut T) -> Result<E
         (NoneFailed S.failures T.failures source.old sink.old source.new sink.new) }
     ensures failed { OnIo result
         (CopyFails S.failures T.failures T.fails source.old sink.old source.new sink.new) }
+    ensures answered { IfIo result (λ e. S.answered e ⊎ T.answered e) }
     ensures refused { OnRefused result (TookWhatCame S.came T.took source.old sink.old sink.new) }
     ensures stops { IfErr result (λ e. OwnFault e
         (StopsCopy S.came S.breaks T.took T.refuses source.old sink.old e)) }
@@ -135,6 +146,7 @@ fn copy_next<S: Source, T: Sink>(source: &mut S, sink: &mut T) -> Result<Option<
         (NoneFailed S.failures T.failures source.old sink.old source.new sink.new) }
     ensures failed { OnIo result
         (CopyFails S.failures T.failures T.fails source.old sink.old source.new sink.new) }
+    ensures answered { IfIo result (λ e. S.answered e ⊎ T.answered e) }
     ensures refused { OnRefused result (T.took sink.old [] sink.new) }
     ensures stops { IfErr result (λ e. OwnFault e (StopsOne S.came S.breaks T.refuses source.old sink.old e)) }
 {

@@ -2,7 +2,8 @@
 ghost use Rattle.std.specs.Prelude.{◌≡◌, IfErr, IfOk, OnOk};
 ghost use Rattle.lower.specs.TypeViews.{fields_view, pairs_of};
 ghost use Rattle.ipc_base.specs.IdTrees.{all_ids_view};
-ghost use Rattle.ipc_devices.specs.Faults.{OnIo, OwnFault};
+ghost use Rattle.ipc_devices.specs.Device.{IsAnswered};
+ghost use Rattle.ipc_devices.specs.Faults.{IfIo, OnIo, OwnFault};
 ghost use Rattle.ipc_convert.specs.Api.{CopiesFileToFile, CopiesStreamToFile};
 ghost use Rattle.ipc_convert.specs.Failures.{OutputFails, SendFails};
 ghost use Rattle.ipc_convert.specs.Steps.{BeginsFile, EndsAnyway, EndsCopy, WithPairsCause};
@@ -38,7 +39,8 @@ use std::alloc::Global;
 /// After the latter two the file is finished with the chunks that were written, unless its device
 /// failed or no memory was left for its footer. Each error but `Memory` and `Io` names a condition
 /// that is true. `Io` comes only if a call of one of the devices failed, or if `out` is memory
-/// whose growth was refused. An error drops both devices: pass `&mut` to keep what was written.
+/// whose growth was refused. It is the error that the device returned. An error drops both devices:
+/// pass `&mut` to keep what was written.
 pub fn stream_to_file<R: Reads + Drop, W: Writes + Drop>(
     alloc: Global,
     input: R,
@@ -76,7 +78,8 @@ pub fn stream_to_file<R: Reads + Drop, W: Writes + Drop>(
 ///
 /// If `file` is in memory, each error but `Memory` and `Io` names a condition that is true. `Io`
 /// comes only if a call of one of the devices failed, or if `out` is memory whose growth was
-/// refused. An error drops both devices: pass `&mut` to keep what was written.
+/// refused. It is the error that the device returned. An error drops both devices: pass `&mut` to
+/// keep what was written.
 pub fn file_to_file<F: Reads + Seeks + Drop, W: Writes + Drop>(
     alloc: Global,
     file: F,
@@ -117,6 +120,7 @@ fn begin_file<W: Writes + Drop>(
         (all_ids_view ids.items) (pairs_of pairs.entries) e)) }
     ensures done { IfOk result (λ w. W.device.failures (seen w).device ≡ W.device.failures out) }
     ensures failed { OnIo result (OutputFails W.device out) }
+    ensures answered { IfIo result (IsAnswered W.device) }
 {
     let mut writer = FileWriter::new(alloc, out, schema, Some(ids), write_options)?;
     writer.set_custom_metadata(pairs)?;
@@ -135,6 +139,7 @@ pub(crate) fn finish_file<W: Writes + Drop>(
     ensures anyway { EndsAnyway W.device copied result (seen writer.old) (seen writer.new) }
     ensures failed { OnIo result (OnOk copied (SendFails W.device
         (seen writer.old).device (seen writer.new).device)) }
+    ensures answered { IfIo result (λ e. OnOk copied (IsAnswered W.device e)) }
 {
     let finished = writer.finish();
     let ending = copied?;

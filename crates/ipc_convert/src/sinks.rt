@@ -1,4 +1,5 @@
 //! Streams and files that chunks are written to.
+ghost use Rattle.ipc_devices.specs.Device.{IsAnswered};
 ghost use Rattle.ipc_convert.specs.SinkLaws.{file_took_in_order, file_took_nothing, stream_took_in_order, stream_took_nothing};
 ghost use Rattle.ipc_write.specs.Writers.{seen};
 ghost use Rattle.ipc_file_write.specs.FileWriters as files;
@@ -22,6 +23,8 @@ impl<W: Writes + Drop> Sink for StreamWriter<W> {
 
     ghost fails = { λ v w. SendFails W.device (seen v).device (seen w).device };
 
+    ghost answered = { IsAnswered W.device };
+
     ghost took_nothing = { stream_took_nothing W.device };
 
     ghost took_in_order = { stream_took_in_order W.device };
@@ -39,6 +42,8 @@ impl<W: Writes + Drop> Sink for FileWriter<W> {
     ghost failures = { λ w. W.device.failures (files.seen w).device };
 
     ghost fails = { λ v w. SendFails W.device (files.seen v).device (files.seen w).device };
+
+    ghost answered = { IsAnswered W.device };
 
     ghost took_nothing = { file_took_nothing W.device };
 

@@ -1,4 +1,5 @@
 //! Streams and files that chunks are read from.
+ghost use Rattle.ipc_devices.specs.Device.{IsAnswered};
 ghost use Rattle.ipc_readers.specs.Streams.{device_of};
 ghost use Rattle.ipc_file_readers.specs.Readers as files;
 ghost use Rattle.ipc_convert.specs.SourceLaws.{file_came_in_order, file_came_nothing, stream_came_in_order, stream_came_nothing};
@@ -19,6 +20,8 @@ impl<R: Reads + Drop> Source for StreamReader<R> {
 
     ghost failures = { λ r. R.device.failures (device_of r) };
 
+    ghost answered = { IsAnswered R.device };
+
     ghost came_nothing = { stream_came_nothing R.gives R.laws.nothing };
 
     ghost came_in_order = { stream_came_in_order R.gives R.laws.in_order };
@@ -36,11 +39,13 @@ impl<R: Reads + Drop> Source for StreamReader<R> {
 impl<F: Reads + Seeks + Drop> Source for FileReader<F> {
     ghost came = { FileCame F.device };
 
-    ghost stopped = { FileStopped };
+    ghost stopped = { FileStopped F.device };
 
     ghost breaks = { NextOfFileCause F.device };
 
     ghost failures = { λ r. F.device.failures (files.device_of r) };
+
+    ghost answered = { IsAnswered F.device };
 
     ghost came_nothing = { file_came_nothing F.device };
 

@@ -1,6 +1,7 @@
 //! Writes streams and files as streams.
 ghost use Rattle.std.specs.Prelude.{◌≡◌, IfErr, OnOk};
-ghost use Rattle.ipc_devices.specs.Faults.{OnIo};
+ghost use Rattle.ipc_devices.specs.Device.{IsAnswered};
+ghost use Rattle.ipc_devices.specs.Faults.{IfIo, OnIo};
 ghost use Rattle.ipc_convert.specs.Api.{CopiesFileToStream, CopiesStreamToStream};
 ghost use Rattle.ipc_convert.specs.Failures.{SendFails};
 ghost use Rattle.ipc_convert.specs.Steps.{EndsAsSource};
@@ -29,9 +30,9 @@ use std::alloc::Global;
 /// - `Argument(TooLarge)` also if `2^64 - 1` chunks came and no end.
 ///
 /// Each error but `Memory` and `Io` names a condition that is true. `Io` comes only if a call of
-/// one of the devices failed, or if `out` is memory whose growth was refused. The chunks that were
-/// taken before the error have been written, without the end mark. An error drops both devices:
-/// pass `&mut` to keep what was written.
+/// one of the devices failed, or if `out` is memory whose growth was refused. It is the error that
+/// the device returned. The chunks that were taken before the error have been written, without the
+/// end mark. An error drops both devices: pass `&mut` to keep what was written.
 pub fn stream_to_stream<R: Reads + Drop, W: Writes + Drop>(
     alloc: Global,
     input: R,
@@ -66,8 +67,9 @@ pub fn stream_to_stream<R: Reads + Drop, W: Writes + Drop>(
 ///
 /// If the file is in memory, each error but `Memory` and `Io` names a condition that is true. `Io`
 /// comes only if a call of one of the devices failed, or if `out` is memory whose growth was
-/// refused. The chunks that were taken before the error have been written, without the end mark. An
-/// error drops both devices: pass `&mut` to keep what was written.
+/// refused. It is the error that the device returned. The chunks that were taken before the error
+/// have been written, without the end mark. An error drops both devices: pass `&mut` to keep what
+/// was written.
 pub fn file_to_stream<F: Reads + Seeks + Drop, W: Writes + Drop>(
     alloc: Global,
     file: F,
@@ -96,6 +98,7 @@ fn end_stream<W: Writes + Drop>(ending: Ending, writer: &mut StreamWriter<W>) ->
         ≡ W.device.failures (seen writer.old).device) }
     ensures failed { OnIo result (SendFails W.device
         (seen writer.old).device (seen writer.new).device) }
+    ensures answered { IfIo result (IsAnswered W.device) }
     ensures only { IfErr result (RefusesFinish (seen writer.old).state) }
 {
     match ending {

@@ -2,8 +2,10 @@
 use Rattle.std.proofs.Common.{◌≡◌, ℕ, ℤ, ◌+◌, ◌-◌, ◌≤◌, List, Bool, true, false, IsTrue, Option, None, Some, Result, Ok, Err, IfErr, OnOk, refl, sym, ap, ◌∙◌, subst, arith, inr}
 use Rattle.lower_arrays.specs.Layouts.{Layout}
 use Rattle.lower_arrays.specs.declared.array.AnyArray.{AnyArray}
-use Rattle.ipc_devices.specs.Device.{Device, Rises}
-use Rattle.ipc_devices.specs.Faults.{OnIo, UnlessIo, OwnFault}
+use Rattle.std.specs.declared.io.Error.{Error}
+use Rattle.ipc_devices.proofs.Acts.{answered_err}
+use Rattle.ipc_devices.specs.Device.{Device, IsAnswered, Rises}
+use Rattle.ipc_devices.specs.Faults.{IfIo, OnIo, UnlessIo, OwnFault}
 use Rattle.ipc_devices.specs.declared.fault.Fault.{Fault}
 use Rattle.ipc_devices.specs.declared.fault.Fault.TheVariants as faults
 use Rattle.std.specs.Prelude.{Vec, slice_get}
@@ -43,6 +45,11 @@ told_behind : (r : Result (List AnyArray) Fault) (a b c : ℕ) → b ≡ a → U
 told_behind (Ok xs) a b c h t = t ∙ h
 told_behind (Err (faults.Io e)) a b c h t = tt
 told_behind (Err _) a b c h t = t ∙ h
+
+-- What is known of an error of a device.
+answered_behind : (r : Result (List AnyArray) Fault) (P : Error → Type 0) → IfIo r P → IfIo (next_result (Some r)) P
+answered_behind (Ok xs) P h = tt
+answered_behind (Err e) P h = answered_err (List AnyArray) (Option (List AnyArray)) e P h
 
 -- What was read first, before a chunk.
 first_given : (r : Result (List AnyArray) Fault) (Q : ℕ → Type 0) (n b needed : ℕ) → Q n → OnOk r (b ≤ n + needed) → OnOk r ((n : ℕ) × Q n × (b ≤ n + needed))
@@ -108,6 +115,7 @@ module _ {R : Type 0} (d : Device R) (stays : IsTrue d.is_memory → IsTrue d.is
       told = told_behind r _ _ _ first.asked.told second.asked.told;
       whole = λ s. second.asked.whole s ∙ first.asked.whole s;
       names = second.asked.names ∙ first.asked.names;
+      answered = answered_behind r (IsAnswered d) second.asked.answered;
     };
     state = record {
       file = record {

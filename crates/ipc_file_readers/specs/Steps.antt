@@ -2,8 +2,8 @@
 -- (Arrow columnar format, "IPC File Format".)
 use Rattle.std.specs.Prelude.{◌≡◌, ◌≢◌, ℕ, ◌+◌, ◌≤◌, Bool, IsTrue, IfOk, IfErr, OnOk, List, [], length, Option, None, Some, Result, slice_get}
 use Rattle.lower_arrays.specs.declared.array.AnyArray.{AnyArray}
-use Rattle.ipc_devices.specs.Device.{Device, Rises}
-use Rattle.ipc_devices.specs.Faults.{OnIo, UnlessIo, OwnFault}
+use Rattle.ipc_devices.specs.Device.{Device, IsAnswered, Rises}
+use Rattle.ipc_devices.specs.Faults.{IfIo, OnIo, UnlessIo, OwnFault}
 use Rattle.ipc_devices.specs.declared.fault.Fault.{Fault}
 use Rattle.ipc_model.specs.Batches.{kinds}
 use Rattle.ipc_model.specs.Entries.{Dictionaries, Limit}
@@ -17,13 +17,15 @@ use Rattle.ipc_files.specs.declared.read.file.metadata.FileMetadata.{FileMetadat
 use Rattle.ipc_file_readers.specs.Readers.{AreKnown, HaveKnownValues, HoldValues, IsOfSameFile, asked_of, block_of, columns_asked, device_of, file_of, known_of, less, message_of, metadata_of, remaining_of, rows_given, scratches_of, values_of}
 use Rattle.ipc_file_readers.specs.declared.read.reader.state.FileReader.{FileReader}
 
--- The device was read: its failures rise exactly if its error is returned, and its bytes stay.
+-- The device was read: its failures rise exactly if its error is returned, and its bytes stay. An
+-- `Io` is an error that the device returned.
 pub record WasAsked {R X : Type 0} (d : Device R) (a : FileReader R) (r : Result X Fault) (b : FileReader R) : Type 0 where
   pub monotone : d.failures (device_of a) ≤ d.failures (device_of b)
   pub failed : OnIo r (Rises (d.failures (device_of a)) (d.failures (device_of b)))
   pub told : UnlessIo r (d.failures (device_of b) ≡ d.failures (device_of a))
   pub whole : IsTrue d.is_read_only → (d.memory (device_of b)).whole ≡ (d.memory (device_of a)).whole
   pub names : d.names (device_of b) ≡ d.names (device_of a)
+  pub answered : IfIo r (IsAnswered d)
 
 -- The dictionaries are known; or they were refused, also by an allocation or the device, and the
 -- reader differs in its device alone.

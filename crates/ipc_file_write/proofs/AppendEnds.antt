@@ -2,7 +2,7 @@
 use Rattle.std.proofs.Common.{◌≡◌, ◌==◌, false, inl, inr, ℕ, pos, ◌+◌, ◌-◌, ◌^◌, ◌<◌, ◌≤◌, min, max, Bool, IsTrue, List, [], ◌∷◌, ◌++◌, length, drop, get_or, None, Err, sym, ap, ◌∙◌, subst, arith}
 use Rattle.std.proofs.lemmas.List.{drop_all, drop_more}
 use Rattle.ipc_devices.specs.Device.{Rises}
-use Rattle.ipc_devices.specs.Faults.{OnIo, OwnFault, UnlessIo}
+use Rattle.ipc_devices.specs.Faults.{OnIo, OwnFault}
 use Rattle.ipc_devices.specs.declared.fault.Fault.{Fault}
 use Rattle.ipc_devices.specs.declared.fault.Fault.TheVariants.{Io, Memory as NoMemory, OutOfSpec}
 use Rattle.ipc_devices.specs.declared.fault.OutOfSpecKind.TheVariants.{UnexpectedNegativeInteger}
@@ -96,10 +96,6 @@ dictionaries_refused known m bytes _ h none reason = inr (record { kind = h; non
 pub own_not_io : (m : FileMetadata) (e : Fault) (P : Type 0) → RefusesToGoOn m e → OnIo {X = Unit {0}} (Err e) P
 own_not_io m (Io x) P h = absurd h
 own_not_io m _ P h = tt
-
-pub told_of : (e : Fault) (P : Type 0) → P → UnlessIo {X = Unit {0}} (Err e) P
-told_of (Io x) P h = tt
-told_of _ P h = h
 
 -- a failure that was counted in some state
 pub device_fails : {W : Type 0} (failures : W → ℕ) (device after : W) (e : Fault) → OnIo {X = Unit {0}} (Err e) (Rises (failures device) (failures after)) → OnIo {X = Unit {0}} (Err e) (DeviceFails failures device)

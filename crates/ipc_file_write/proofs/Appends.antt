@@ -58,6 +58,10 @@ schema_same m w order fields metadata ids = rw (order, fields, metadata, ids) re
 pub same_failures : {W : Type 0} (failures : W → ℕ) (w : FileSeen W) (device : W) (p : Prepared) → w ≡ resumed device p → failures w.device ≡ failures device
 same_failures {W = W} failures w device p e = ap (λ (x : FileSeen W). failures x.device) e
 
+-- The same of the names of the device.
+pub same_names : {W : Type 0} (names : W → List ℕ) (w : FileSeen W) (device : W) (p : Prepared) → w ≡ resumed device p → names w.device ≡ names device
+same_names {W = W} names w device p e = ap (λ (x : FileSeen W). names x.device) e
+
 -- After a file of some chunks, with the schema in the normal form.
 pub goes_on_with : {W : Type 0} (d : Device W) (m : FileMetadata) (device : W) (w : FileSeen W) → GoesOn d m device w → GoesOnWith d m device w
 goes_on_with d m device w g k is dictionaries cs means =

@@ -1,6 +1,7 @@
 -- The bytes of a file writer after each call.
 use Rattle.std.proofs.Common.{◌≡◌, ℕ, ◌+◌, ◌%◌, ◌≤◌, Bool, IsTrue, List, [], ◌∷◌, ◌++◌, length, take, replicate, None, Some, refl, sym, ap, ◌∙◌, subst, append_assoc, append-nil, length-append, arith, Ok, Err}
-use Rattle.ipc_devices.specs.Device.{Device, Memory, WritesOver, before}
+use Rattle.ipc_devices.proofs.Acts.{none_answered}
+use Rattle.ipc_devices.specs.Device.{Device, IsAnswered, Memory, WritesOver, before}
 use Rattle.ipc_devices.specs.Faults.{OnIo, OnRefused}
 use Rattle.ipc_devices.specs.declared.fault.Fault.{Fault}
 use Rattle.ipc_devices.specs.declared.fault.Fault.TheVariants.{Argument, Io, Memory as NoMemory}
@@ -52,6 +53,7 @@ kept_step d a b e bytes kept same not_io = record {
   same = same;
   monotone = rw kept.device (omega arith);
   io = not_io _;
+  answered = none_answered {X = Unit {0}} (Err e) (IsAnswered d) (not_io ⊥);
   refused = on_refused e _ kept;
   done = tt;
   all_sent = λ k. tt;
@@ -76,7 +78,7 @@ refused_beginning d a e not_io = record { bytes = []; is = none_sent e _ not_io;
 
 pub refused_ending : {W : Type 0} (d : Device W) (a : FileSeen W) (e : Fault)
     → ((P : Type 0) → OnIo {X = Unit {0}} (Err e) P) → SendsEnding d a (Err e) a
-refused_ending d a e not_io = record { bytes = []; is = none_sent e _ not_io; step = refused_step d a e not_io }
+refused_ending d a e not_io = record { bytes = []; is = none_sent e _ not_io; step = refused_step d a e not_io; flushed = tt }
 
 pub start_not_io : {W : Type 0} (w : FileSeen W) (e : Fault) → RefusesStart w e → (P : Type 0) → OnIo {X = Unit {0}} (Err e) P
 start_not_io w (Io x) h P = absurd h

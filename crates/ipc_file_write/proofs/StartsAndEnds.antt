@@ -92,11 +92,11 @@ state_no_pairs w pairs _ h = absurd h
 
 -- all bytes
 sent_step : {W : Type 0} (d : Device W) (a b : FileSeen W) (bytes : List ℕ) → IsSameFile a b → Delivers {X = Unit {0}} d bytes a.device (Ok tt) b.device → FileStep d a (Ok tt) b bytes
-sent_step d a b bytes same h = record { same = same; monotone = h.monotone; io = tt; refused = tt; done = h.done; all_sent = h.memory; some_sent = h.part; names = h.names }
+sent_step d a b bytes same h = record { same = same; monotone = h.monotone; io = tt; answered = tt; refused = tt; done = h.done; all_sent = h.memory; some_sent = h.part; names = h.names }
 
 -- the device failed on the way
 failed_step : {W : Type 0} (d : Device W) (a b : FileSeen W) (x : _) (bytes : List ℕ) → IsSameFile a b → b.state ≡ Failed → Delivers {X = Unit {0}} d bytes a.device (Err (Io x)) b.device → FileStep d a (Err (Io x)) b bytes
-failed_step d a b x bytes same is h = record { same = same; monotone = h.monotone; io = (is, h.failed); refused = tt; done = tt; all_sent = λ k. tt; some_sent = h.part; names = h.names }
+failed_step d a b x bytes same is h = record { same = same; monotone = h.monotone; io = (is, h.failed); answered = h.only; refused = tt; done = tt; all_sent = λ k. tt; some_sent = h.part; names = h.names }
 
 module _ {W : Type 0} (d : Device W) (a b : FileSeen W) (bytes : List ℕ) (same : IsSameFile a b) where
   pub beginning_sent : IsBeginning a bytes → b.place ≡ length bytes → Delivers {X = Unit {0}} d bytes a.device (Ok tt) b.device → SendsBeginning d a (Ok tt) b
@@ -106,11 +106,11 @@ module _ {W : Type 0} (d : Device W) (a b : FileSeen W) (bytes : List ℕ) (same
   beginning_broken (Io x) begins is h = record { bytes = bytes; is = begins; place = tt; step = failed_step d a b x bytes same is h }
   beginning_broken _ begins is h = absurd h.only
 
-  pub ending_sent : IsEnding a bytes → Delivers {X = Unit {0}} d bytes a.device (Ok tt) b.device → SendsEnding d a (Ok tt) b
-  ending_sent ends h = record { bytes = bytes; is = ends; step = sent_step d a b bytes same h }
+  pub ending_sent : IsEnding a bytes → Delivers {X = Unit {0}} d bytes a.device (Ok tt) b.device → IsTrue (d.is_flushed b.device) → SendsEnding d a (Ok tt) b
+  ending_sent ends h done = record { bytes = bytes; is = ends; step = sent_step d a b bytes same h; flushed = done }
 
   pub ending_broken : (e : Fault) → IsEnding a bytes → b.state ≡ Failed → Delivers {X = Unit {0}} d bytes a.device (Err e) b.device → SendsEnding d a (Err e) b
-  ending_broken (Io x) ends is h = record { bytes = bytes; is = ends; step = failed_step d a b x bytes same is h }
+  ending_broken (Io x) ends is h = record { bytes = bytes; is = ends; step = failed_step d a b x bytes same is h; flushed = tt }
   ending_broken _ ends is h = absurd h.only
 
 -- ---- new writers

@@ -154,6 +154,7 @@ module _ {W : Type 0} (d : Device W) (a b : FileSeen W) where
       same = file_of same chosen;
       monotone = h.sends.monotone;
       io = (h.failed, h.sends.failed);
+      answered = h.sends.only;
       refused = tt;
       done = tt;
       all_sent = λ k. tt;
@@ -200,7 +201,7 @@ module _ {W : Type 0} (d : Device W) (a b : FileSeen W) where
     lists = lists;
     are = h.are;
     takes = takes_columns p columns list was h ids pairs remembers dictionaries blocks place;
-    step = record { same = same; monotone = h.sends.monotone; io = tt; refused = tt; done = h.sends.done; all_sent = h.sends.memory; some_sent = h.sends.part; names = h.sends.names };
+    step = record { same = same; monotone = h.sends.monotone; io = tt; answered = tt; refused = tt; done = h.sends.done; all_sent = h.sends.memory; some_sent = h.sends.part; names = h.sends.names };
   }
 
   -- so the file has the chunk

@@ -5,8 +5,8 @@ use Rattle.lower.specs.TypeTrees.{FieldTrees, Pairs}
 use Rattle.lower_arrays.specs.declared.array.AnyArray.{AnyArray}
 use Rattle.lower_types.specs.declared.Endianness.{Endianness}
 use Rattle.ipc_base.specs.IdTrees.{IdTrees}
-use Rattle.ipc_devices.specs.Device.{Device, before}
-use Rattle.ipc_devices.specs.Faults.{OnIo}
+use Rattle.ipc_devices.specs.Device.{Device, IsAnswered, before}
+use Rattle.ipc_devices.specs.Faults.{IfIo, OnIo}
 use Rattle.ipc_devices.specs.declared.fault.Fault.{Fault}
 use Rattle.ipc_devices.specs.declared.fault.StateFault.{StateFault}
 use Rattle.ipc_model.specs.Files.{FileMetadata}
@@ -106,7 +106,7 @@ pub record FinishesFile {W : Type 0} (d : Device W) (a : FileSeen W) (r : Result
   pub exact : AnswersFinish a r
   -- What each error means.
   pub causes : IfErr r (OrFails (RefusesFinish a))
-  -- The end mark and the footer were sent, and what the device says of them.
+  -- The end mark and the footer were sent and flushed, and what the device says of them.
   pub device : SendsEnding d a r b
   -- The finished file is no shorter than one that was appended to.
   pub bounds : OnOk r (ReachesEnd d a b)
@@ -137,6 +137,8 @@ pub record OpensToAppend {W : Type 0} (d : Device W) (m : FileMetadata) (given :
   pub causes : IfErr r (AppendCause d m given)
   -- `Io` comes only if a call of the device failed.
   pub device : OnIo r (DeviceFails d.failures given)
+  -- An `Io` is an error that the device returned.
+  pub answered : IfIo r (IsAnswered d)
   -- The writer is started at the append position, with all that the file has.
   pub state : IfOk r (λ w. OpensFile d m given (seen w))
   -- In memory, the chunks of the file come first.

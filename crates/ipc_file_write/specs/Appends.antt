@@ -122,10 +122,11 @@ pub record GoesOn {W : Type 0} (d : Device W) (m : FileMetadata) (device : W) (w
   pub stands : IsTrue d.is_memory → GoesTo (d.memory device) (d.memory w.device) (goes_on m)
   pub remembers : IsTrue d.is_memory → RemembersFile m (d.memory device).whole w.remembers
 
--- A writer appends to a file, and no call of its device failed.
+-- A writer appends to a file, on the device that it was given, and no call of that failed.
 pub record OpensFile {W : Type 0} (d : Device W) (m : FileMetadata) (device : W) (w : FileSeen W) : Type 0 where
   pub goes_on : GoesOn d m device w
   pub done : d.failures w.device ≡ d.failures device
+  pub names : d.names w.device ≡ d.names device
 
 -- If the file had these chunks, and its blocks need no byte after the append position, the writer's
 -- chunks come after them. The earlier chunks are seen in the normal form of the schema.

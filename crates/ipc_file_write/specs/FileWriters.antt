@@ -6,8 +6,8 @@ use Rattle.lower.specs.TypeViews.{fields_view, pairs_of}
 use Rattle.lower_types.specs.declared.Endianness.{Endianness}
 use Rattle.ipc_base.specs.Fitting.{AllFit}
 use Rattle.ipc_base.specs.IdTrees.{IdTrees, all_ids_view}
-use Rattle.ipc_devices.specs.Device.{Device, Memory, WritesOver, before}
-use Rattle.ipc_devices.specs.Faults.{OnIo, OnRefused, OwnFault}
+use Rattle.ipc_devices.specs.Device.{Device, IsAnswered, Memory, WritesOver, before}
+use Rattle.ipc_devices.specs.Faults.{IfIo, OnIo, OnRefused, OwnFault}
 use Rattle.ipc_devices.specs.declared.fault.ArgFault.TheVariants.{FieldsShape, NotWritable, TooLarge}
 use Rattle.ipc_devices.specs.declared.fault.Fault.{Fault}
 use Rattle.ipc_devices.specs.declared.fault.Fault.TheVariants.{Argument, Io, Memory as NoMemory, State}
@@ -197,11 +197,12 @@ pub record IsSameFile {W : Type 0} (a b : FileSeen W) : Type 0 where
   pub size : b.size ≡ a.size
 
 -- What a call that sends these bytes does to its device, and what a refused call leaves. If it
--- returns Ok, no call of the device failed.
+-- returns Ok, no call of the device failed. If it returns `Io`, that is the device's own error.
 pub record FileStep {W : Type 0} (d : Device W) (a : FileSeen W) (r : Result Unit Fault) (b : FileSeen W) (bytes : List ℕ) : Type 0 where
   pub same : IsSameFile a b
   pub monotone : d.failures a.device ≤ d.failures b.device
   pub io : OnIo r ((b.state ≡ Failed) × FailsOrIsFull d.grows (d.failures a.device) (d.failures b.device) (d.room a.device) (length bytes))
+  pub answered : IfIo r (IsAnswered d)
   pub refused : OnRefused r (Kept a b)
   pub done : OnOk r (d.failures b.device ≡ d.failures a.device)
   pub all_sent : IsTrue d.is_memory → OnOk r (WritesOver (d.memory a.device) (d.memory b.device) bytes)
@@ -238,11 +239,13 @@ pub record SendsBeginning {W : Type 0} (d : Device W) (a : FileSeen W) (r : Resu
   pub place : OnOk r (b.place ≡ length bytes)
   pub step : FileStep d a r b bytes
 
--- A call that sends the end of a file, if it sends anything.
+-- A call that sends the end of a file, if it sends anything. If it returns Ok, the device keeps
+-- nothing back.
 pub record SendsEnding {W : Type 0} (d : Device W) (a : FileSeen W) (r : Result Unit Fault) (b : FileSeen W) : Type 0 where
   pub bytes : List ℕ
   pub is : OnSent r (IsEnding a bytes)
   pub step : FileStep d a r b bytes
+  pub flushed : OnOk r (IsTrue (d.is_flushed b.device))
 
 -- Why a writer refuses to start.
 abbrev pub RefusesStart : {W : Type 0} → FileSeen W → Fault → Type 0

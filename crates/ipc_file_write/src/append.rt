@@ -1,9 +1,10 @@
 //! Appends to existing files.
 //!
 //! Arrow columnar format, "IPC File Format".
-ghost use Rattle.std.specs.Prelude.{◌≡◌, [], ◌-◌, ◌^◌, ◌≤◌, min, max, IsTrue, IfErr, IfOk, OnOk};
-ghost use Rattle.ipc_devices.specs.Device.{GoesTo, Rises};
-ghost use Rattle.ipc_devices.specs.Faults.{OnIo, OwnFault, UnlessIo};
+ghost use Rattle.std.specs.Prelude.{◌≡◌, [], ◌-◌, ◌^◌, min, max, IsTrue, IfErr, IfOk, OnOk};
+ghost use Rattle.ipc_devices.specs.Acts.{ReadsDevice};
+ghost use Rattle.ipc_devices.specs.Device.{GoesTo};
+ghost use Rattle.ipc_devices.specs.Faults.{OwnFault};
 ghost use Rattle.ipc_devices.specs.declared.fault.Fault.TheVariants.{OutOfSpec};
 ghost use Rattle.ipc_devices.specs.declared.fault.OutOfSpecKind.TheVariants.{UnexpectedNegativeInteger};
 ghost use Rattle.ipc_model.specs.Files.{file_dictionaries};
@@ -118,13 +119,7 @@ fn dictionaries_of<W: Reads + Seeks>(
         (file_dictionaries (file_seen metadata.now) (W.device.memory device.old).whole) }
     ensures place { IsTrue W.device.is_memory
         → OnOk result (GoesTo (W.device.memory device.old) (W.device.memory device.new) place) }
-    ensures whole { IsTrue W.device.is_read_only
-        → (W.device.memory device.new).whole ≡ (W.device.memory device.old).whole }
-    ensures names { W.device.names device.new ≡ W.device.names device.old }
-    ensures monotone { W.device.failures device.old ≤ W.device.failures device.new }
-    ensures failed { OnIo result
-        (Rises (W.device.failures device.old) (W.device.failures device.new)) }
-    ensures told { UnlessIo result (W.device.failures device.new ≡ W.device.failures device.old) }
+    ensures device { ReadsDevice W.device device.old result device.new }
 {
     let mut scratch = Vec::new(alloc);
     let dictionaries = read_file_dictionaries(alloc, device, metadata, &mut scratch)?;
@@ -162,11 +157,7 @@ pub fn prepare<W: Reads + Seeks>(
         (resumed device.new prepared)) }
     ensures only { IfErr result
         (RefusesFile W.device.is_memory (file_seen metadata) (W.device.memory device.old).whole) }
-    ensures whole { IsTrue W.device.is_read_only
-        → (W.device.memory device.new).whole ≡ (W.device.memory device.old).whole }
-    ensures failed { OnIo result
-        (Rises (W.device.failures device.old) (W.device.failures device.new)) }
-    ensures told { UnlessIo result (W.device.failures device.new ≡ W.device.failures device.old) }
+    ensures device { ReadsDevice W.device device.old result device.new }
 {
     let place = place_to_go_on(alloc, &metadata)?;
     let mut dictionary_blocks = Vec::new(alloc);

@@ -1,5 +1,5 @@
 //! Sends bytes to a device, and makes the ends of a file.
-ghost use Rattle.std.specs.Prelude.{◌≡◌, ◌^◌, ◌<◌, ◌++◌, IfOk, OnErr, OnOk, length, map};
+ghost use Rattle.std.specs.Prelude.{◌≡◌, ◌^◌, ◌<◌, ◌++◌, IfOk, IsTrue, OnErr, OnOk, length, map};
 ghost use Rattle.lower_arrays.specs.AnyLayouts.{layout_of};
 ghost use Rattle.ipc_schema_write.specs.WriterAnswers.{byte_order};
 ghost use Rattle.ipc_tracker.specs.Listings.{listed};
@@ -77,6 +77,7 @@ fn send_ending<W: Writes>(writer: &mut W, ending: &Ending) -> Result<(), Fault>
 // Sends the end of a file, and flushes the device.
 fn send_and_flush<W: Writes>(writer: &mut W, ending: &Ending) -> Result<(), Fault>
     ensures sends { Delivers W.device (ending_bytes ending.now) writer.old result writer.new }
+    ensures flushed { OnOk result (IsTrue (W.device.is_flushed writer.new)) }
 {
     send_ending(writer, ending)?;
     writer.flush()?;
@@ -90,6 +91,7 @@ pub(crate) fn send_last<W: Writes>(
     ending: &Ending,
 ) -> Result<(), Fault>
     ensures sends { Delivers W.device (ending_bytes ending.now) writer.old result writer.new }
+    ensures flushed { OnOk result (IsTrue (W.device.is_flushed writer.new)) }
     ensures stays { OnOk result (state.new ≡ state.old) }
     ensures failed { OnErr result (state.new ≡ Failed) }
 {

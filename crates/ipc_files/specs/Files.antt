@@ -4,8 +4,8 @@
 use Rattle.std.specs.Prelude.{◌≡◌, ◌⊎◌, ℕ, ◌+◌, ◌-◌, ◌<◌, ◌≤◌, ◌^◌, nat_lt, ◌&&◌, if◌then◌else◌, List, [], ◌∷◌, length, take, drop, Option, None, Some, Result, Ok, Err, Bool, IsTrue}
 use Rattle.std.specs.Int.{w32, from_le_bytes}
 use Rattle.std.specs.Str.{bytes_eq}
-use Rattle.ipc_devices.specs.Device.{Device, Rises}
-use Rattle.ipc_devices.specs.Faults.{OnIo, OwnFault, UnlessIo}
+use Rattle.ipc_devices.specs.Device.{Device, IsAnswered, Rises}
+use Rattle.ipc_devices.specs.Faults.{IfIo, OnIo, OwnFault, UnlessIo}
 use Rattle.ipc_devices.specs.declared.fault.Fault.{Fault}
 use Rattle.ipc_devices.specs.declared.fault.Fault.TheVariants.{Ended, NotYetImplemented, OutOfSpec, Schema as BadSchema}
 use Rattle.ipc_devices.specs.declared.fault.Nyi.TheVariants.{FeatherV1}
@@ -145,7 +145,8 @@ pub record FooterGiven (known : Bool) (bytes : List ℕ) (old new : ℕ) : Type 
   pub most : new ≤ old + (16 + footer)
 
 -- Reading from state a to state b: the bytes stay, and a failure of the device is counted exactly
--- if its error is returned. At most the head and the tail were read, or these and the footer.
+-- if its error is returned. At most the head and the tail were read, or these and the footer. An
+-- `Io` is an error that the device returned.
 pub record ReadsFooter {R X : Type 0} (d : Device R) (a : R) (r : Result X Fault) (b : R) : Type 0 where
   pub monotone : d.failures a ≤ d.failures b
   pub failed : OnIo r (Rises (d.failures a) (d.failures b))
@@ -153,6 +154,7 @@ pub record ReadsFooter {R X : Type 0} (d : Device R) (a : R) (r : Result X Fault
   pub whole : IsTrue d.is_read_only → (d.memory b).whole ≡ (d.memory a).whole
   pub taken : (d.given b ≤ d.given a + 16) ⊎ FooterGiven d.is_memory (d.memory a).whole (d.given a) (d.given b)
   pub names : d.names b ≡ d.names a
+  pub answered : IfIo r (IsAnswered d)
 
 -- The bytes of the footer and the size of the file; or why it has no footer: its head or its tail.
 abbrev pub GivesFooter : ℕ → List ℕ → Result FileFooter Fault → Type 0

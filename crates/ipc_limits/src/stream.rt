@@ -1,5 +1,7 @@
 //! The schema message at the beginning of a stream, within a limit.
 ghost use Rattle.std.specs.Prelude.{◌≤◌, IfOk};
+ghost use Rattle.ipc_devices.specs.Device.{IsAnswered};
+ghost use Rattle.ipc_devices.specs.Faults.{IfIo};
 ghost use Rattle.lower.specs.TypeViews.{fields_view};
 ghost use Rattle.ipc_base.specs.Fitting.{AllFit};
 ghost use Rattle.ipc_base.specs.IdTrees.{all_ids_view};
@@ -34,6 +36,7 @@ pub fn read_stream_metadata_within<R: Reads>(
     limit: u64,
 ) -> Result<StreamMetadata, Fault>
     ensures gives { MetadataGaveWithin R.gives limit reader.old result reader.new }
+    ensures answered { IfIo result (IsAnswered R.device) }
     ensures fits { IfOk result (λ m. AllFit (fields_view m.schema.fields.items)
         (all_ids_view m.ipc_schema.fields.items)) }
     ensures bounded { IfOk result (λ m.

@@ -4,8 +4,8 @@ use Rattle.std.specs.Prelude.{map}
 use Rattle.std.specs.List.{flat_map}
 use Rattle.std.proofs.lemmas.List.{drop-drop, length-take-le, take_all, take-append-le, take-append-drop, replicate-append-replicate}
 use Rattle.std.proofs.Math.Seq.{take-append-add}
+use Rattle.ipc_devices.specs.Acts.{IsIoOf}
 use Rattle.ipc_devices.specs.Device.{Device, Memory, Rises, WritesOver, after, before}
-use Rattle.ipc_devices.specs.Faults.{IsIo}
 use Rattle.ipc_devices.specs.declared.fault.Fault.{Fault}
 use Rattle.ipc_plan.specs.Sending.{WritesSome, Sends}
 
@@ -139,7 +139,7 @@ one_write d w w' n xs h same over room names =
       names = names;
     }
 
-pub no_write : {X W : Type 0} (d : Device W) (w w' : W) (e : Fault) (xs : List ℕ) → IsIo e → d.failures w ≤ d.failures w' → Rises (d.failures w) (d.failures w') ⊎ (IsTrue d.grows × (d.room w < length xs))
+pub no_write : {X W : Type 0} (d : Device W) (w w' : W) (e : Fault) (xs : List ℕ) → IsIoOf d e → d.failures w ≤ d.failures w' → Rises (d.failures w) (d.failures w') ⊎ (IsTrue d.grows × (d.room w < length xs))
     → (IsTrue d.is_memory → d.memory w' ≡ d.memory w) → d.names w' ≡ d.names w → Sends {X = X} d xs w (Err e) w'
 no_write d w w' e xs io rises failed same names = record {
   monotone = rises;

@@ -1,11 +1,11 @@
 mod Blocks
+mod Borrowed
+mod BorrowedFiles
 mod CatRows
 mod ClassRows
 mod ConvertRows
 mod Demos
 mod IoLines
-mod Lending
-mod LentFiles
 mod LineRows
 mod Numbers
 mod PositionRows

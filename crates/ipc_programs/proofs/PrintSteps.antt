@@ -2,7 +2,7 @@
 use Rattle.std.specs.Prelude.{IfOk, OnOk}
 use Rattle.std.proofs.Common.{◌≡◌, inl, inr, ℕ, ◌+◌, ◌≤◌, IsTrue, List, [], ◌++◌, Result, Ok, Err, refl, sym, ap, ◌∙◌, subst, append_assoc, append-nil, arith}
 use Rattle.ipc_devices.specs.Device.{Device, Memory, Rises, WritesOver}
-use Rattle.ipc_devices.specs.Faults.{IsIo}
+use Rattle.ipc_devices.specs.Acts.{IsIoOf}
 use Rattle.ipc_devices.specs.declared.fault.Fault.{Fault}
 use Rattle.ipc_devices.specs.declared.fault.Fault.TheVariants as faults
 use Rattle.ipc_plan.proofs.Sends.{Sent, sends_stop, sends_then, sent_none}
@@ -15,13 +15,17 @@ use Rattle.ipc_programs.specs.declared.cat.printer.Printer.{Printer}
 -- ---- what is sent
 
 -- The same without the room of a device.
+roomless_io : {W : Type 0} (d : Device W) (e : Fault) → IsIoOf d e → IsIoOf (without_room d) e
+roomless_io d (faults.Io x) h = h
+roomless_io d _ h = absurd h
+
 pub roomless : {X W : Type 0} (d : Device W) (w w' : W) (r : Result X Fault) (bytes : List ℕ) → Sends d bytes w r w'
     → Sends (without_room d) bytes w r w'
 roomless d w w' (Ok x) bytes h = record { monotone = h.monotone; failed = tt; only = tt; done = h.done; memory = h.memory; part = h.part; room = omega arith; names = h.names }
 roomless d w w' (Err e) bytes h = record {
   monotone = h.monotone;
   failed = elim h.failed [ inl rises ↦ inl rises | inr full ↦ inr (full.0, let low = full.1 in omega (arith, low)) ];
-  only = h.only;
+  only = roomless_io d e h.only;
   done = tt;
   memory = λ k. tt;
   part = h.part;
@@ -48,7 +52,7 @@ then_flushed d w w' w'' x y bytes h well same room names = record {
 }
 
 pub then_unflushed : {X Y W : Type 0} (d : Device W) (w w' w'' : W) (x : X) (e : Fault) (bytes : List ℕ) → Sends d bytes w (Ok x) w' → d.failures w' ≤ d.failures w''
-    → Rises (d.failures w') (d.failures w'') → IsIo e → (IsTrue d.is_memory → d.memory w'' ≡ d.memory w') → d.names w'' ≡ d.names w'
+    → Rises (d.failures w') (d.failures w'') → IsIoOf d e → (IsTrue d.is_memory → d.memory w'' ≡ d.memory w') → d.names w'' ≡ d.names w'
     → Sends {X = Y} d bytes w (Err e) w''
 then_unflushed d w w' w'' x e bytes h more rises io same names = record {
   monotone = let was = h.monotone in omega (arith, was, more);
@@ -159,7 +163,7 @@ module _ {W : Type 0} (d : Device W) where
     none = none;
     sends = subst (λ (xs : List ℕ). Sends {X = Unit {0}} (without_room d) xs (printer_seen a).device (Err e) (printer_seen b).device) same
         (then_unflushed {X = Unit {0}} {Y = Unit {0}} (without_room d) (printer_seen a).device o.device.now (printer_seen b).device x e bytes
-        wrote.sends flushed.monotone flushed.failed flushed.only flushed.memory_is flushed.names);
+        wrote.sends flushed.monotone flushed.failed (roomless_io d e flushed.only) flushed.memory_is flushed.names);
     done = tt;
     flushed = tt;
   }
@@ -246,5 +250,5 @@ module _ {W : Type 0} (d : Device W) where
   pub all_printed : {X : Type 0} (a b : Printer W) (old new : W) (r : Result X Fault) → a.out.device.now ≡ old → b.out.device.now ≡ new → OnOk r (PrintsAll d a b)
       → OnOk r (Printed d old new)
   all_printed a b old new (Ok x) first last h =
-      rw (sym first, sym last) (record { bytes = h.printed.sent; written = λ k. h.printed.sends.memory k; done = h.printed.done })
+      rw (sym first, sym last) (record { bytes = h.printed.sent; written = λ k. h.printed.sends.memory k; done = h.printed.done; flushed = h.flushed })
   all_printed a b old new (Err e) first last h = tt

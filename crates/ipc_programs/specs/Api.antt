@@ -22,7 +22,7 @@ use Rattle.ipc_programs.specs.Written.{Appended, CopiesAsAsked}
 pub record RunsCat {R F O E : Type 0} (gives : Gives R) (contents : Device F) (d : Device O) (q : Option cat.Wanted) (a : R) (file : Option F) (v w : O) (x y : E) : Type 0 where
   -- What was read is valid.
   pub shown : IfSome q (λ form. Shows gives contents form a file)
-  -- All was written to the output, and no call of it failed.
+  -- All was written to the output and flushed, and no call of it failed.
   pub printed : Printed d v w
   -- Nothing was written to the error output.
   pub silent : y ≡ x
@@ -57,6 +57,8 @@ pub record RunsConvert {R F A O E : Type 0} (gives : Gives R) (source : Device R
   pub copied : IsTrue d.is_memory → IfSome q (λ form. CopiesAsAsked gives contents form a b file (d.memory v) (d.memory w))
   -- If appending was requested, the file has the chunks of the input more.
   pub appended : IfSome q (λ form. Appended gives kept form a b append_to)
+  -- If a copy was requested, the output keeps nothing back.
+  pub flushed : IfSome q (λ form. convert.writes_output form ≡ true → IsTrue (d.is_flushed w))
   -- If the input is read, it was a valid stream, and no byte more was read.
   pub taken : IfSome q (λ form. convert.reads_input form ≡ true → TakesStream gives a b)
   -- No call of the input or the output failed.

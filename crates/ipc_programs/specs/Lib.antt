@@ -9,7 +9,6 @@ pub mod ConvertWords
 pub mod Demo
 pub mod LineRows
 pub mod Lines
-pub mod Named
 pub mod Outputs
 pub mod PositionRows
 pub mod Positions

@@ -1,7 +1,7 @@
 -- What the calls of an output do to the device that it borrows.
-use Rattle.std.specs.Prelude.{◌≡◌, ◌≤◌, ℕ, IsTrue, true, List, Result, IfErr, OnErr, OnOk}
+use Rattle.std.specs.Prelude.{◌≡◌, ◌≤◌, ℕ, IsTrue, List, Result, IfErr, OnErr, OnOk}
 use Rattle.ipc_devices.specs.Device.{Device, Rises}
-use Rattle.ipc_devices.specs.Faults.{IsIo}
+use Rattle.ipc_devices.specs.Acts.{IsIoOf}
 use Rattle.ipc_devices.specs.declared.fault.Fault.{Fault}
 use Rattle.ipc_plan.specs.Sending.{Sends}
 use Rattle.ipc_programs.specs.declared.cat.output.Output.{Output}
@@ -18,13 +18,14 @@ pub record WritesOutput {W X : Type 0} (d : Device W) (a : Output W) (r : Result
   pub sends : Sends (without_room d) bytes a.device.now r b.device.now
   pub done : OnOk r (d.failures b.device.now ≡ d.failures a.device.now)
 
--- A call flushes an output: the bytes of its device stay.
+-- A call flushes an output: the bytes of its device stay. If it returns Ok, the device keeps
+-- nothing back.
 pub record FlushesOutput {W X : Type 0} (d : Device W) (a : Output W) (r : Result X Fault) (b : Output W) : Type 0 where
   pub same : b.device.ghost_name ≡ a.device.ghost_name
   pub monotone : d.failures a.device.now ≤ d.failures b.device.now
   pub failed : OnErr r (Rises (d.failures a.device.now) (d.failures b.device.now))
-  pub only : IfErr r (λ e. IsIo e)
+  pub only : IfErr r (IsIoOf d)
   pub done : OnOk r (d.failures b.device.now ≡ d.failures a.device.now)
   pub memory_is : IsTrue d.is_memory → d.memory b.device.now ≡ d.memory a.device.now
-  pub flushed : OnOk r (b.is_flushed ≡ true)
+  pub flushed : OnOk r (IsTrue (d.is_flushed b.device.now))
   pub names : d.names b.device.now ≡ d.names a.device.now

@@ -1,6 +1,6 @@
 -- What becomes of the bytes that are printed: they are sent in the order in which they came, and
 -- those that aren't sent yet are buffered.
-use Rattle.std.specs.Prelude.{◌≡◌, ◌⊎◌, ℕ, Bool, IsTrue, true, List, [], ◌++◌, Result, Ok, Err, OnOk}
+use Rattle.std.specs.Prelude.{◌≡◌, ◌⊎◌, ℕ, IsTrue, List, [], ◌++◌, Result, Ok, Err, OnOk}
 use Rattle.ipc_devices.specs.Device.{Device, WritesOver}
 use Rattle.ipc_devices.specs.declared.fault.Fault.{Fault}
 use Rattle.ipc_devices.specs.declared.fault.Fault.TheVariants as faults
@@ -8,12 +8,11 @@ use Rattle.ipc_plan.specs.Sending.{Sends}
 use Rattle.ipc_programs.specs.Outputs.{without_room}
 use Rattle.ipc_programs.specs.declared.cat.printer.Printer.{Printer}
 
--- What contracts know of a printer: the name of its reference to the device, the device, whether
--- that was flushed since the last write, and the buffered bytes.
+-- What contracts know of a printer: the name of its reference to the device, the device, and the
+-- buffered bytes.
 pub record PrinterSeen (W : Type 0) : Type 0 where
   pub name : ℕ
   pub device : W
-  pub is_flushed : Bool
   pub kept : List ℕ
 
 -- What contracts know of a printer.
@@ -21,7 +20,6 @@ abbrev pub printer_seen : {W : Type 0} → Printer W → PrinterSeen W
 printer_seen printer = record {
   name = printer.out.device.ghost_name;
   device = printer.out.device.now;
-  is_flushed = printer.out.is_flushed;
   kept = printer.kept.items;
 }
 
@@ -54,7 +52,7 @@ pub record SendsSeen {W X : Type 0} (d : Device W) (a : PrinterSeen W) (r : Resu
   pub none : b.kept ≡ []
   pub sends : Sends (without_room d) a.kept a.device r b.device
   pub done : OnOk r (d.failures b.device ≡ d.failures a.device)
-  pub flushed : OnOk r (b.is_flushed ≡ true)
+  pub flushed : OnOk r (IsTrue (d.is_flushed b.device))
 
 module _ {W : Type 0} (d : Device W) where
   -- Some bytes were printed.
@@ -67,13 +65,14 @@ module _ {W : Type 0} (d : Device W) where
     pub bytes : List ℕ
     pub printed : PrintsBytes d (printer_seen a) (printer_seen b) bytes
     pub none : b.kept.items ≡ []
-    pub flushed : b.out.is_flushed ≡ true
+    pub flushed : IsTrue (d.is_flushed b.out.device.now)
 
-  -- All bytes that were printed were written to a device, and no call of it failed.
+  -- All bytes that were printed were written to a device and flushed, and no call of it failed.
   pub record Printed (a b : W) : Type 0 where
     pub bytes : List ℕ
     pub written : IsTrue d.is_memory → WritesOver (d.memory a) (d.memory b) bytes
     pub done : d.failures b ≡ d.failures a
+    pub flushed : IsTrue (d.is_flushed b)
 
 abbrev pub Puts : {W X : Type 0} → Device W → Printer W → Result X Fault → Printer W → List ℕ → Type 0
 Puts d a r b bytes = PutsSeen d (printer_seen a) r (printer_seen b) bytes

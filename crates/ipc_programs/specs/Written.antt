@@ -33,9 +33,10 @@ module _ {R F : Type 0} (gives : Gives R) (d : Device F) where
   CopiesAsAsked (append path) a b file old new = Unit {0}
 
   -- If appending was requested, the file was opened, and the stream of the input was appended to it
-  -- in a state of its device. Up to that state no call of the device failed.
+  -- in a state of its device, which keeps nothing back then. Up to that state no call of the device
+  -- failed.
   abbrev pub Appended : Wanted → (a b : R) → Option F → Type 0
   Appended (copy from target options) a b file = Unit {0}
   Appended (append path) a b None = ⊥
-  Appended (append path) a b (Some device) = (last : F) × (d.failures last ≡ d.failures device)
+  Appended (append path) a b (Some device) = (last : F) × (d.failures last ≡ d.failures device) × IsTrue (d.is_flushed last)
       × (IsTrue d.is_memory → (d.memory device).place ≡ 0 → CopiesStream gives a b (λ schema cs _. AppendsTo (d.memory device).whole (d.memory last).whole schema cs))

@@ -12,7 +12,6 @@ ghost use Rattle.ipc_programs.specs.Written.{Appended, CopiesAsAsked};
 mod copies;
 mod entry;
 mod forms;
-mod lent;
 
 use crate::class::tell;
 use arrow2_ipc::io::ipc::fault::{Failures, Fault, Reads, Seeks, Writes};
@@ -52,8 +51,8 @@ pub fn place_of(words: &[String]) -> Option<Place<'_>>
 ///
 /// The status is
 ///
-/// - 0: all was written, also of a stream that waits for more. No call of `input` or `out` failed,
-///   nor of a file that was appended to, flushes included. Nothing after the end mark was read from
+/// - 0: all was written and flushed, also of a stream that waits for more. No call of `input` or
+///   `out` failed, nor of a file that was appended to. Nothing after the end mark was read from
 ///   `input`.
 /// - 1: an error, whose class was written to `err`. A class other than `no memory` and
 ///   `input or output failed` names a condition that is true. It is one of what `input` gave, of
@@ -122,6 +121,8 @@ fn run_form<R: Reads, F: Reads + Seeks + Drop, A: Reads + Writes + Seeks + Drop,
         IsMissing place.1 file append_to → (input.new ≡ input.old) × (out.new ≡ out.old)) }
     ensures unread { reads_input (wanted_by form.entry) ≡ false → input.new ≡ input.old }
     ensures unwritten { writes_output (wanted_by form.entry) ≡ false → out.new ≡ out.old }
+    ensures flushed { writes_output (wanted_by form.entry) ≡ true
+        → OnOk result (IsTrue (O.device.is_flushed out.new)) }
     ensures taken { reads_input (wanted_by form.entry) ≡ true → OnOk result (TakesStream R.gives input.old input.new) }
     ensures copied { IsTrue O.device.is_memory → OnOk result
         (CopiesAsAsked R.gives F.device (wanted_by form.entry) input.old
@@ -167,16 +168,16 @@ pub(crate) fn opened<F>(file: Option<F>) -> Result<F, Fault>
     }
 }
 
-// The result of a copy, after a flush. The contract of the copy speaks of the device that it
-// returned, which is a borrow: so the device itself is asked for failures.
+// The result of a copy, after a flush. The contract of the copy doesn't say whether a call of `out`
+// failed: so `out` is asked for failures.
 fn flushed<O: Writes>(
     copied: Result<(), Fault>,
     out: &mut O,
     failures_before: u64,
 ) -> Result<(), Fault>
     ensures same { IfOk result (λ done. copied ≡ Ok done) }
-    ensures both { OnOk result (O.device.failures out.new ≡ O.device.failures out.old) }
     ensures done { OnOk result (O.device.failures out.new ≡ failures_before) }
+    ensures flushed { OnOk result (IsTrue (O.device.is_flushed out.new)) }
     ensures memory { IsTrue O.device.is_memory
         → O.device.memory out.new ≡ O.device.memory out.old }
     ensures fault { IfErr result (λ e. (copied ≡ Err e) ⊎ IsIo e) }

@@ -2,8 +2,10 @@
 use Rattle.std.proofs.Common.{arith, ◌≡◌, ℕ, ◌+◌, ◌≤◌, Result, Ok, Err, sym, subst, ◌∙◌}
 use Rattle.std.proofs.lemmas.Bool.{false≢true}
 use Rattle.std.specs.Result.{IsErr, IsErrAnd}
-use Rattle.ipc_devices.specs.Device.{Device, Memory, Rises}
-use Rattle.ipc_devices.specs.Faults.{OnIo, UnlessIo}
+use Rattle.std.specs.declared.io.Error.{Error}
+use Rattle.ipc_devices.proofs.Acts.{answered_err}
+use Rattle.ipc_devices.specs.Device.{Device, IsAnswered, Memory, Rises}
+use Rattle.ipc_devices.specs.Faults.{IfIo, OnIo, UnlessIo}
 use Rattle.ipc_devices.specs.declared.fault.Fault.{Fault}
 use Rattle.ipc_devices.specs.declared.fault.Fault.TheVariants as Faults
 use Rattle.ipc_read_flat.specs.Steps.{Step}
@@ -42,6 +44,11 @@ unless_io_through : (X Y : Type 0) (r : Result Y Fault) (e : Fault) (P Q : Type 
 unless_io_through X Y (Ok x) e P Q is f h = absurd (false≢true is.0)
 unless_io_through X Y (Err u) e P Q is f h = subst (λ (v : Fault). UnlessIo {X = Y} (Err v) Q) (sym is.1) (unless_io X Y e P Q f h)
 
+-- What is known of a device's error.
+if_io_through : (X Y : Type 0) (r : Result Y Fault) (e : Fault) (P : Error → Type 0) → IsErr r × IsErrAnd r (λ f. f ≡ e) → IfIo {X = X} (Err e) P → IfIo {X = Y} r P
+if_io_through X Y (Ok x) e P is h = tt
+if_io_through X Y (Err u) e P is h = subst (λ (v : Fault). IfIo {X = Y} (Err v) P) (sym is.1) (answered_err X Y e P h)
+
 rises_from : (a b c : ℕ) → a ≤ b → Rises b c → Rises a c
 rises_from a b c le h = omega (arith, le, h)
 
@@ -57,4 +64,5 @@ step_err {R} {X} {Y} d s n m a0 a b e r is le same names lt st = record {
   told = unless_io_through X Y r e (d.failures b ≡ d.failures a) (d.failures b ≡ d.failures a0) is (λ h. h ∙ same) st.told;
   bounded = omega (arith, st.bounded, lt);
   names = st.names ∙ names;
+  answered = if_io_through X Y r e (IsAnswered d) is st.answered;
 }

@@ -1,7 +1,8 @@
 -- What reads of the schema message give.
 use Rattle.std.proofs.Common.{◌≡◌, ℕ, ◌≤◌, List, [], length, Some, None, Result, Ok, Err, refl, subst, inl}
 use Rattle.ipc_devices.proofs.Claims.{claims_through}
-use Rattle.ipc_devices.specs.Faults.{OwnFault}
+use Rattle.ipc_devices.specs.Device.{Device, IsAnswered}
+use Rattle.ipc_devices.specs.Faults.{IfIo, OwnFault}
 use Rattle.ipc_devices.specs.Gives.{going, ended, stop_of, FaultStop, Gives, Gave}
 use Rattle.ipc_devices.specs.declared.fault.Fault.{Fault}
 use Rattle.ipc_devices.specs.declared.fault.Fault.TheVariants.{Ended, Io, Memory, OutOfSpec, Schema as BadSchema}
@@ -77,6 +78,11 @@ schema_refused m e h = claims_through e (schema_of m ≡ None) ((metadata_at m �
 pub schema_going : (m : List ℕ) (e : Fault) → RefusesMessage e m → FaultStop e going
 schema_going m (Io e) h = absurd h
 schema_going m _ h = tt
+
+-- The error of a refused schema is no device's.
+pub schema_answered : {S : Type 0} (d : Device S) (m : List ℕ) (e : Fault) → RefusesMessage e m → IfIo {X = StreamMetadata} (Err e) (IsAnswered d)
+schema_answered d m (Io e) h = absurd h
+schema_answered d m _ h = tt
 
 -- ---- what was given
 

@@ -7,8 +7,8 @@ use Rattle.lower_arrays.specs.AnyLayouts.{layout_of}
 use Rattle.lower_arrays.specs.declared.array.AnyArray.{AnyArray}
 use Rattle.ipc_base.specs.IdTrees.{all_ids_view}
 use Rattle.ipc_read_flat.specs.Bodies.{known_dictionaries}
-use Rattle.ipc_devices.specs.Device.{Device, after}
-use Rattle.ipc_devices.specs.Faults.{OwnFault}
+use Rattle.ipc_devices.specs.Device.{Device, IsAnswered, after}
+use Rattle.ipc_devices.specs.Faults.{IfIo, OwnFault}
 use Rattle.ipc_devices.specs.Gives.{Stop, going, ended, FaultStop, AnswerStop, Gives, GaveTo}
 use Rattle.ipc_devices.specs.declared.fault.Fault.{Fault}
 use Rattle.ipc_devices.specs.declared.fault.Fault.TheVariants.{Ended, OutOfSpec}
@@ -365,6 +365,8 @@ pub record NextStep {R : Type 0} (gives : Gives R) (d : Device R) (a : StreamRea
       → GivesNext (request_of a) (known_of a) (ahead d a) (next_result r) (known_of b) (begun_of b) (ahead d b)
   -- An error is one of a stream with this schema.
   pub causes : IfErr (next_result r) (λ e. OwnFault e (IsStreamFault (request_of a) e))
+  -- An `Io` is an error that the device returned.
+  pub answered : IfIo (next_result r) (IsAnswered d)
   -- Which bytes the device returned, and what they mean.
   pub gave : is_over a ≡ false → NextGave gives (request_of a) (known_of a) (begun_of a) (device_of a) (next_result r) (known_of b) (begun_of b) (device_of b)
   -- The arrays of dictionary values are those from before, or were set by messages that were read.

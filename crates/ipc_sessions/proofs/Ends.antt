@@ -92,4 +92,6 @@ ends_session d a b c chunks answers r writes does = record {
   left_is = refl;
   leaves = session_leaves d a b c (taken_of chunks answers) (takes_all d a b chunks answers writes) r does.device does.state.ok does.bounds does.content;
   done = session_done d a b c r (done_all d a b chunks answers writes) does.device does.state.ok;
+  names = does.device.step.names ∙ (takes_all d a b chunks answers writes).names;
+  flushed = does.device.flushed;
 }

@@ -6,8 +6,8 @@ use Rattle.std.specs.declared.alloc.Global.{Global}
 use Rattle.lower.specs.TypeTrees.{Pairs}
 use Rattle.lower_arrays.specs.declared.array.AnyArray.{AnyArray}
 use Rattle.ipc_devices.proofs.Claims.{claims_own, claims_through}
-use Rattle.ipc_devices.specs.Device.{Device, Rises}
-use Rattle.ipc_devices.specs.Faults.{IsIo, OnIo, OwnFault, UnlessIo}
+use Rattle.ipc_devices.specs.Device.{Device}
+use Rattle.ipc_devices.specs.Faults.{IsIo, OnIo, OwnFault}
 use Rattle.ipc_devices.specs.declared.fault.ArgFault.TheVariants.{FieldsShape, NoRecordBlocks, NotWritable, TooLarge}
 use Rattle.ipc_devices.specs.declared.fault.Fault.{Fault}
 use Rattle.ipc_devices.specs.declared.fault.Fault.TheVariants.{Argument, Io, Memory as NoMemory, OutOfSpec}
@@ -210,15 +210,6 @@ pub io_fails : (e : Fault) (P : Type 0) → OnIo {X = Unit {0}} (Err e) P → Is
 io_fails (Io x) P h io = h
 io_fails _ P h io = absurd io
 
--- By the count that a device had before calls that didn't fail.
-pub fails_from : (e : Fault) (old mid new : ℕ) → mid ≡ old → OnIo {X = Unit {0}} (Err e) (Rises mid new) → OnIo {X = Unit {0}} (Err e) (Rises old new)
-fails_from (Io x) old mid new same h = subst (λ (n : ℕ). Rises n new) same h
-fails_from _ old mid new same h = tt
-
-pub told_from : (e : Fault) (old mid new : ℕ) → mid ≡ old → UnlessIo {X = Unit {0}} (Err e) (new ≡ mid) → UnlessIo {X = Unit {0}} (Err e) (new ≡ old)
-told_from (Io x) old mid new same h = tt
-told_from _ old mid new same h = h ∙ same
-
 -- ---- one after the other
 
 -- One of some sessions, those before it and those after it.
@@ -254,3 +245,10 @@ module _ {W : Type 0} (d : Device W) where
   sessions_more a m b [] (x ∷ rs) c r h last = absurd h
   sessions_more a m b (y ∷ cs) [] c r h last = absurd h
   sessions_more a m b (y ∷ cs) (x ∷ rs) c r h last = (h.0, (h.1.0, sessions_more h.0 m b cs rs c r h.1.1 last))
+
+  -- They have the same device.
+  pub sessions_named : (a b : W) (cs : List (Vec (List AnyArray) Global)) (rs : List (Vec (Result (Unit {0}) Fault) Global)) → AreSessions d a cs rs b → d.names b ≡ d.names a
+  sessions_named a b [] [] h = ap d.names h
+  sessions_named a b [] (x ∷ rs) h = absurd h
+  sessions_named a b (y ∷ cs) [] h = absurd h
+  sessions_named a b (y ∷ cs) (x ∷ rs) h = sessions_named h.0 b cs rs h.1.1 ∙ h.1.0.names

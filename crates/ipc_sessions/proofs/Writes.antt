@@ -39,6 +39,7 @@ takes_none d a = record {
   onward = λ k inside. record { kept = refl; longer = omega arith; on = omega arith; there = inside };
   more = λ k size h. h;
   holds = λ k is_stream base cs h. subst (λ (ds : List Chunk). HoldsBytes is_stream (d.memory a.device) a base ds) (sym (append-nil cs)) h;
+  names = refl;
 }
 
 same-both : {W : Type 0} (a b c : FileSeen W) → IsSameFile a b → IsSameFile b c → IsSameFile a c
@@ -52,6 +53,7 @@ takes_both d a b c xs ys f g = record {
   onward = λ k inside. let first = f.onward k inside in onward_both (d.memory a.device) (d.memory b.device) (d.memory c.device) first (g.onward k first.there);
   more = λ k size h. g.more k size (f.more k size h);
   holds = λ k is_stream base cs h. subst (λ (ds : List Chunk). HoldsBytes is_stream (d.memory c.device) c base ds) (append_assoc cs xs ys) (g.holds k is_stream base (cs ++ xs) (f.holds k is_stream base cs h));
+  names = g.names ∙ f.names;
 }
 
 -- ---- one write
@@ -69,6 +71,7 @@ module _ {W : Type 0} (d : Device W) (a b : FileSeen W) (columns : List AnyArray
     onward = λ k inside. onward_step d a b (Ok x) _ sends.step k inside;
     more = λ k size h. no_more_step d a b (Ok x) _ sends.step k size h;
     holds = λ k is_stream base cs h. appends.appended k is_stream base cs h;
+    names = sends.step.names;
   }
 
   -- A chunk that was refused, or sent in part.
@@ -80,6 +83,7 @@ module _ {W : Type 0} (d : Device W) (a b : FileSeen W) (columns : List AnyArray
     onward = λ k inside. onward_step d a b (Err (Io x)) _ sends.step k inside;
     more = λ k size h. no_more_step d a b (Err (Io x)) _ sends.step k size h;
     holds = λ k is_stream base cs h. subst (λ (ds : List Chunk). HoldsBytes is_stream (d.memory b.device) b base ds) (sym (append-nil cs)) (appends.kept k is_stream base cs h);
+    names = sends.step.names;
   }
   takes-err _ sends appends = record {
     same = sends.step.same;
@@ -88,6 +92,7 @@ module _ {W : Type 0} (d : Device W) (a b : FileSeen W) (columns : List AnyArray
     onward = λ k inside. onward_step d a b _ _ sends.step k inside;
     more = λ k size h. no_more_step d a b _ _ sends.step k size h;
     holds = λ k is_stream base cs h. subst (λ (ds : List Chunk). HoldsBytes is_stream (d.memory b.device) b base ds) (sym (append-nil cs)) (appends.kept k is_stream base cs h);
+    names = sends.step.names;
   }
 
   takes-one : (r : Result (Unit {0}) Fault) → SendsColumns d a r b columns → Appends d a r b (chunk_written columns) → TakesChunks d a b (taken_of (columns ∷ []) (r ∷ []))

@@ -6,8 +6,8 @@ use Rattle.lower.specs.TypeTrees.{FieldTrees, Pairs}
 use Rattle.lower_types.specs.declared.Endianness.{Endianness}
 use Rattle.lower_arrays.specs.declared.array.AnyArray.{AnyArray}
 use Rattle.ipc_base.specs.IdTrees.{IdTrees}
-use Rattle.ipc_devices.specs.Device.{Device}
-use Rattle.ipc_devices.specs.Faults.{IsIo, OnIo, OwnFault}
+use Rattle.ipc_devices.specs.Device.{Device, IsAnswered}
+use Rattle.ipc_devices.specs.Faults.{IfIo, IsIo, OnIo, OwnFault}
 use Rattle.ipc_devices.specs.declared.fault.Fault.{Fault}
 use Rattle.ipc_model.specs.Files.{FileMetadata, metadata_of}
 use Rattle.ipc_schema_write.specs.WriterAnswers.{written_as}
@@ -37,6 +37,8 @@ pub record AppendsToFile {W : Type 0} (d : Device W) (m : FileMetadata) (a : W) 
   pub causes : IfErr r (AppendCause d m a)
   -- `Io` is returned only if a call of the device failed.
   pub device : OnIo r (DeviceFails d.failures a)
+  -- An `Io` is an error that the device returned.
+  pub answered : IfIo r (IsAnswered d)
   -- Which calls were made of the file's writer.
   pub calls : IfOk r (λ s. IsSession d m a chunks s.answers.items s.end s.device)
   -- In memory the old metadata still give the old chunks, whatever the calls returned.
@@ -57,6 +59,8 @@ pub record AppendsSession {W : Type 0} (d : Device W) (a : W) (chunks : List (Li
   pub causes : IfErr r (SessionCause d a)
   -- `Io` is returned only if a call of the device failed.
   pub device : OnIo r (DeviceFails d.failures a)
+  -- An `Io` is an error that the device returned.
+  pub answered : IfIo r (IsAnswered d)
   -- Which calls were made of the file's writer.
   pub calls : IfOk r (λ s. IsSessionOn d a chunks s.answers.items s.end s.device)
   -- In memory the old metadata still give the old chunks, whatever the calls returned.
@@ -70,8 +74,12 @@ pub record RunsSessions {W : Type 0} (d : Device W) (a : W) (sessions : List (Ve
   pub causes : IfErr r (λ e. OwnFault e (InTurnCause d a sessions e))
   -- `Io` is returned only by a session whose device failed or whose memory couldn't grow.
   pub device : IfErr r (λ e. IsIo e → FailsInTurn d a sessions e)
+  -- An `Io` is an error that the device returned.
+  pub answered : IfIo r (IsAnswered d)
   -- Which sessions were made.
   pub calls : IfOk r (λ left. AreSessions d a sessions left.answers.items left.device)
+  -- It is the same device.
+  pub names : IfOk r (λ left. d.names left.device ≡ d.names a)
 
 -- ---- files in memory
 

@@ -36,7 +36,7 @@ use Rattle.ipc_sessions.specs.Sessions.{ResumeCause, MetadataCause, IsEndedFile,
 -- ---- what the calls do
 
 -- Some writes appended exactly these chunks to the file, in order, and changed no byte
--- before the offset where they began.
+-- before the offset where they began. The writer has the same device.
 pub record TakesChunks {W : Type 0} (d : Device W) (a b : FileSeen W) (cs : List Chunk) : Type 0 where
   pub same : IsSameFile a b
   pub was : b.state ≡ Started → a.state ≡ Started
@@ -45,6 +45,7 @@ pub record TakesChunks {W : Type 0} (d : Device W) (a b : FileSeen W) (cs : List
   pub more : IsTrue d.is_memory → (size : ℕ) → NoMore (d.memory a.device) size → NoMore (d.memory b.device) size
   pub holds : IsTrue d.is_memory → (is_stream : Bool) (base : List ℕ) (before : List Chunk) → HoldsBytes is_stream (d.memory a.device) a base before
       → HoldsBytes is_stream (d.memory b.device) b base (before ++ cs)
+  pub names : d.names b.device ≡ d.names a.device
 
 -- A writer wrote these chunks, and then `finish` returned `end`: no byte before its offset changed.
 -- If `end` is Ok, the device is a whole file with these chunks more. This needs that after the
@@ -109,7 +110,8 @@ CreationCause fs es is order ps chunks (State faults.Failed) = MayCreate fs es i
 CreationCause fs es is order ps chunks _ = ⊥
 
 -- The calls of a started writer: each chunk is written, and `finish` is called last and returns
--- `end`. `left` is the device after that. If the end is Ok, no call of the device failed.
+-- `end`. `left` is the same device after that. If the end is Ok, no call of it failed, and it keeps
+-- nothing back.
 pub record EndsSession {W : Type 0} (d : Device W) (opened : FileSeen W) (chunks : List (List AnyArray)) (answers : List (Result Unit Fault)) (end : Result Unit Fault) (left : W) : Type 0 where
   pub last : FileSeen W
   pub writes : AreWritten d opened chunks answers last
@@ -118,17 +120,20 @@ pub record EndsSession {W : Type 0} (d : Device W) (opened : FileSeen W) (chunks
   pub left_is : left ≡ finished.device
   pub leaves : Leaves d opened left end (taken_of chunks answers)
   pub done : OnOk end (d.failures left ≡ d.failures opened.device)
+  pub names : d.names left ≡ d.names opened.device
+  pub flushed : OnOk end (IsTrue (d.is_flushed left))
 
--- A session by metadata that were read before: a writer appends to the file, with these calls. If
--- the end is Ok, no call of the device failed.
+-- A session by metadata that were read before: a writer appends to the file, with these calls. It
+-- has the same device. If the end is Ok, no call of it failed.
 pub record IsSession {W : Type 0} (d : Device W) (m : FileMetadata) (device : W) (chunks : List (List AnyArray)) (answers : List (Result Unit Fault)) (end : Result Unit Fault) (left : W) : Type 0 where
   pub opened : FileSeen W
   pub goes_on : GoesOn d m device opened
   pub calls : EndsSession d opened chunks answers end left
   pub done : OnOk end (d.failures left ≡ d.failures device)
+  pub names : d.names left ≡ d.names device
 
 -- A session on a file: its metadata are read, a writer appends to it by these, with these calls,
--- and `end` is the result of the last.
+-- and `end` is the result of the last. `left` is the same device.
 pub record IsSessionOn {W : Type 0} (d : Device W) (device : W) (chunks : List (List AnyArray)) (answers : List (Result Unit Fault)) (end : Result Unit Fault) (left : W) : Type 0 where
   pub read : W
   pub same : IsTrue d.is_memory → (d.memory read).whole ≡ (d.memory device).whole
@@ -136,6 +141,7 @@ pub record IsSessionOn {W : Type 0} (d : Device W) (device : W) (chunks : List (
   pub metadata_is : IsTrue d.is_memory → metadata_of (d.memory device).whole ≡ Some metadata
   pub session : IsSession d metadata read chunks answers end left
   pub done : OnOk end (d.failures left ≡ d.failures device)
+  pub names : d.names left ≡ d.names device
 
 -- A writer appends to the file that begins where this device begins, by the metadata that the file
 -- has. No call of the device failed since these were read.

@@ -1,7 +1,8 @@
 //! Sessions on existing files: chunks are appended, and the file is finished again.
 ghost use Rattle.std.specs.Prelude.{◌≡◌, IfErr, IfOk, IsTrue, Ok, OnErr};
-ghost use Rattle.ipc_devices.specs.Device.{Rises};
-ghost use Rattle.ipc_devices.specs.Faults.{IsIo, OnIo, OwnFault, UnlessIo};
+ghost use Rattle.ipc_devices.specs.Acts.{ReadsDevice};
+ghost use Rattle.ipc_devices.specs.Device.{IsAnswered};
+ghost use Rattle.ipc_devices.specs.Faults.{IfIo, IsIo, OwnFault};
 ghost use Rattle.ipc_devices.specs.declared.fault.Fault.TheVariants.{Memory};
 ghost use Rattle.ipc_files.specs.Footers.{file_seen};
 ghost use Rattle.ipc_file_write.specs.Appends.{resumed};
@@ -109,11 +110,7 @@ pub fn prepare_session<W: Reads + Seeks>(alloc: Global, device: &mut W) -> Resul
         (resumed device.new prepared)) }
     ensures only { IfErr result
         (OpeningCause W.device.is_memory (W.device.memory device.old).whole) }
-    ensures whole { IsTrue W.device.is_read_only
-        → (W.device.memory device.new).whole ≡ (W.device.memory device.old).whole }
-    ensures failed { OnIo result
-        (Rises (W.device.failures device.old) (W.device.failures device.new)) }
-    ensures told { UnlessIo result (W.device.failures device.new ≡ W.device.failures device.old) }
+    ensures device { ReadsDevice W.device device.old result device.new }
 {
     device.seek_to(0)?;
     let metadata = read_file_metadata(alloc, device)?;
@@ -183,6 +180,7 @@ fn whole_session<W: Reads + Writes + Seeks + Drop>(
     ensures only { IfErr result
         (λ e. OwnFault e (WholeSessionCause W.device device chunks.now e)) }
     ensures failed { IfErr result (λ e. IsIo e → FailsWhole W.device device chunks.now e) }
+    ensures answered { IfIo result (IsAnswered W.device) }
 {
     let session = append_session(alloc, device, chunks)?;
     let Session {

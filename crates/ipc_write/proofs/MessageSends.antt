@@ -4,7 +4,7 @@ use Rattle.std.specs.Int.{next_multiple_of}
 use Rattle.lower_types.specs.declared.Endianness.{Endianness}
 use Rattle.lower_arrays.specs.Layouts.{Layout}
 use Rattle.ipc_chunks.proofs.Refusals.{IsOfMessage}
-use Rattle.ipc_devices.specs.Faults.{IsIo}
+use Rattle.ipc_devices.specs.Acts.{IsIoOf}
 use Rattle.ipc_devices.specs.declared.fault.ArgFault.TheVariants.{TooLarge, TooLong}
 use Rattle.ipc_devices.specs.declared.fault.Fault.{Fault}
 use Rattle.ipc_devices.specs.declared.fault.Fault.TheVariants.{Argument, Io, Memory as NoMemory}
@@ -91,15 +91,15 @@ hands_sent d order columns list ds own w w' (Ok x) are h = record { dictionaries
 hands_sent d order columns list ds own w w' (Err (Io x)) are h = record { dictionaries = ds; own = own; are = are; sends = h }
 hands_sent d order columns list ds own w w' (Err _) are h = absurd h.only
 
-pub handing_sent : (list : List FilledPlace) (columns : List Layout) (r : Result (Unit {0}) Fault) (P : Type 0) → IfErr r (λ e. IsIo e) → P → MatchResult r (λ _. P) (RefusesHanding list columns)
-handing_sent list columns (Ok x) P only p = p
-handing_sent list columns (Err (Io x)) P only p = tt
-handing_sent list columns (Err _) P only p = absurd only
+pub handing_sent : {W : Type 0} (d : Device W) (list : List FilledPlace) (columns : List Layout) (r : Result (Unit {0}) Fault) (P : Type 0) → IfErr r (IsIoOf d) → P → MatchResult r (λ _. P) (RefusesHanding list columns)
+handing_sent d list columns (Ok x) P only p = p
+handing_sent d list columns (Err (Io x)) P only p = tt
+handing_sent d list columns (Err _) P only p = absurd only
 
-pub leaves_sent : (s s' : WriterState) (r : Result (Unit {0}) Fault) → IfErr r (λ e. IsIo e) → OnOk r (s' ≡ s) → OnErr r (s' ≡ Failed) → LeavesState r s s'
-leaves_sent s s' (Ok x) only stays failed = stays
-leaves_sent s s' (Err (Io x)) only stays failed = failed
-leaves_sent s s' (Err _) only stays failed = absurd only
+pub leaves_sent : {W : Type 0} (d : Device W) (s s' : WriterState) (r : Result (Unit {0}) Fault) → IfErr r (IsIoOf d) → OnOk r (s' ≡ s) → OnErr r (s' ≡ Failed) → LeavesState r s s'
+leaves_sent d s s' (Ok x) only stays failed = stays
+leaves_sent d s s' (Err (Io x)) only stays failed = failed
+leaves_sent d s s' (Err _) only stays failed = absurd only
 
 -- both byte orders
 pub same_order : (b : Bool) → order_of b ≡ byte_order b

@@ -5,8 +5,10 @@ use Rattle.std.specs.Int.{next_multiple_of}
 use Rattle.std.specs.declared.alloc.Global.{Global}
 use Rattle.ipc_base.specs.declared.ipc.IpcField.{IpcField}
 use Rattle.ipc_schema_write.specs.DefaultIds.{default_all}
-use Rattle.ipc_devices.specs.Device.{Device, Rises}
-use Rattle.ipc_devices.specs.Faults.{IsIo, OnIo, OnRefused}
+use Rattle.ipc_devices.proofs.Acts.{none_answered}
+use Rattle.ipc_devices.specs.Acts.{IsIoOf}
+use Rattle.ipc_devices.specs.Device.{Device, IsAnswered, Rises}
+use Rattle.ipc_devices.specs.Faults.{OnIo, OnRefused}
 use Rattle.ipc_devices.specs.declared.fault.Fault.{Fault}
 use Rattle.ipc_devices.specs.declared.fault.Fault.TheVariants.{Argument, Io, Memory as NoMemory, State}
 use Rattle.ipc_devices.specs.declared.fault.ArgFault.TheVariants.{TooLarge}
@@ -52,9 +54,9 @@ state_finish s (State x) h = h
 state_finish s _ h = absurd h
 
 -- A device that failed, in `finish`.
-pub io_finish : (s : WriterState) (e : Fault) → IsIo e → RefusesFinish s e
-io_finish s (Io x) h = tt
-io_finish s _ h = absurd h
+pub io_finish : {W : Type 0} (d : Device W) (s : WriterState) (e : Fault) → IsIoOf d e → RefusesFinish s e
+io_finish d s (Io x) h = tt
+io_finish d s _ h = absurd h
 
 -- The message of a schema whose length fits wasn't sent whole.
 pub unsent_start : (X : Type 0) {W : Type 0} (d : Device W) (w w' : W) (e : Fault) (bytes : List ℕ) (reason : Type 0) (s : WriterState) (fs : FieldTrees) (es : Pairs) (is : IdTrees)
@@ -100,6 +102,7 @@ refused_step d a b bytes count e kept order not_io = record {
   monotone = rw kept.device (omega arith);
   order = order;
   io = not_io _;
+  answered = none_answered {X = Unit {0}} (Err e) (IsAnswered d) (not_io ⊥);
   refused = on_refused (Unit {0}) e _ kept;
   done = tt;
   all_sent = λ k. tt;
@@ -140,7 +143,7 @@ fuller grows old new room n count h (inr full) = inr (full.0, omega (arith, h, f
 -- all was sent
 pub ok_step : {W X : Type 0} (d : Device W) (a b : WriterSeen W) (x : X) (u : Unit {0}) (bytes : List ℕ) (count : ℕ)
     → Sends {X = X} d bytes a.device (Ok x) b.device → b.order ≡ a.order → SendStep d a (Ok u) b bytes count
-ok_step d a b x u bytes count h order = record { monotone = h.monotone; order = order; io = tt; refused = tt; done = h.done; all_sent = h.memory; some_sent = h.part; names = h.names }
+ok_step d a b x u bytes count h order = record { monotone = h.monotone; order = order; io = tt; answered = tt; refused = tt; done = h.done; all_sent = h.memory; some_sent = h.part; names = h.names }
 
 -- the device failed on the way
 pub failed_step : {W X : Type 0} (d : Device W) (a b : WriterSeen W) (e : Fault) (bytes : List ℕ) (count : ℕ) → length bytes ≤ count
@@ -149,6 +152,7 @@ failed_step d a b (Io x) bytes count most h state order = record {
   monotone = h.monotone;
   order = order;
   io = (state, fuller d.grows _ _ _ _ count most h.failed);
+  answered = h.only;
   refused = tt;
   done = tt;
   all_sent = λ k. tt;

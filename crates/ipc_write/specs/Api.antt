@@ -1,6 +1,6 @@
 -- What each call of a stream writer does.
 -- (Arrow columnar format, "IPC Streaming Format".)
-use Rattle.std.specs.Prelude.{◌≡◌, pos, List, Option, Result, IfErr, OnOk}
+use Rattle.std.specs.Prelude.{◌≡◌, pos, IsTrue, List, Option, Result, IfErr, OnOk}
 use Rattle.ipc_base.specs.IdTrees.{IdTrees}
 use Rattle.ipc_devices.specs.Device.{Device}
 use Rattle.ipc_devices.specs.declared.fault.Fault.{Fault}
@@ -52,6 +52,8 @@ pub record FinishesStream {W : Type 0} (d : Device W) (a : WriterSeen W) (r : Re
   pub causes : IfErr r (RefusesFinish a.state)
   -- The end mark, of eight bytes, was sent, and what the device says of it.
   pub device : SendStep d a r b (prefix_bytes (pos 0)) 8
+  -- If it is Ok, the device keeps nothing back.
+  pub flushed : OnOk r (IsTrue (d.is_flushed b.device))
   -- If it is Ok, the writer was started, and is finished.
   pub state : StateStep (fault_unless_started a.state) ((a.state ≡ Started) × (b.state ≡ Finished)) a r b
   -- In memory, the stream has the chunks that it had.

@@ -2,8 +2,8 @@
 use Rattle.std.specs.Prelude.{◌≡◌, ℕ, ◌<◌, ◌≤◌, ◌⊎◌, Bool, IsTrue, List, [], ◌∷◌, ◌++◌, length, Result, Ok, Err, OnOk, OnErr, IfErr}
 use Rattle.lower_types.specs.declared.Endianness.{Endianness}
 use Rattle.lower_arrays.specs.Layouts.{Layout}
+use Rattle.ipc_devices.specs.Acts.{IsIoOf}
 use Rattle.ipc_devices.specs.Device.{Device, Rises, WritesOver}
-use Rattle.ipc_devices.specs.Faults.{IsIo}
 use Rattle.ipc_devices.specs.declared.fault.Fault.{Fault}
 use Rattle.ipc_devices.specs.declared.fault.Fault.TheVariants.{Argument, Io}
 use Rattle.ipc_devices.specs.declared.fault.ArgFault.TheVariants.{TooLarge}
@@ -16,13 +16,13 @@ use Rattle.ipc_chunks.specs.Messages.{AreMessages, Message}
 abbrev pub FailsOrIsFull : (grows : Bool) → (old new room count : ℕ) → Type 0
 FailsOrIsFull grows old new room count = Rises old new ⊎ (IsTrue grows × (room < count))
 
--- A call that sends these bytes to a device, and may flush it. The only error is `Io`, if the
--- device counted a failure or has too little room; then a first part of the bytes was sent. If the
--- call returns Ok, all were sent, and no call of the device failed.
+-- A call that sends these bytes to a device, and may flush it. The only error is one that the
+-- device returned, if that counted a failure or has too little room; then a first part of the bytes
+-- was sent. If the call returns Ok, all were sent, and no call of the device failed.
 pub record Delivers {X W : Type 0} (d : Device W) (bytes : List ℕ) (a : W) (r : Result X Fault) (b : W) : Type 0 where
   pub monotone : d.failures a ≤ d.failures b
   pub failed : OnErr r (FailsOrIsFull d.grows (d.failures a) (d.failures b) (d.room a) (length bytes))
-  pub only : IfErr r (λ e. IsIo e)
+  pub only : IfErr r (IsIoOf d)
   pub done : OnOk r (d.failures b ≡ d.failures a)
   pub memory : IsTrue d.is_memory → OnOk r (WritesOver (d.memory a) (d.memory b) bytes)
   pub part : IsTrue d.is_memory → WritesSome (d.memory a) (d.memory b) bytes

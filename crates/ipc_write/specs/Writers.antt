@@ -8,8 +8,8 @@ use Rattle.ipc_base.specs.Chunks.{row_count}
 use Rattle.ipc_base.specs.IdTrees.{IdTrees, all_ids_view}
 use Rattle.ipc_base.specs.declared.ipc.IpcField.{IpcField}
 use Rattle.ipc_chunks.specs.Messages.{AreMessages, Message, RefusesSome}
-use Rattle.ipc_devices.specs.Device.{Device, WritesOver}
-use Rattle.ipc_devices.specs.Faults.{OnIo, OnRefused, OwnFault}
+use Rattle.ipc_devices.specs.Device.{Device, IsAnswered, WritesOver}
+use Rattle.ipc_devices.specs.Faults.{IfIo, OnIo, OnRefused, OwnFault}
 use Rattle.ipc_devices.specs.declared.fault.Fault.{Fault}
 use Rattle.ipc_devices.specs.declared.fault.Fault.TheVariants.{Argument, Io, Memory as NoMemory, State}
 use Rattle.ipc_devices.specs.declared.fault.ArgFault.TheVariants.{ColumnCount, ColumnType, FieldsDiffer, FieldsShape, SharedDictionary, TooLarge, TooLong}
@@ -131,11 +131,12 @@ pub record Kept {W : Type 0} (a b : WriterSeen W) : Type 0 where
   pub dictionaries : IsSameMemory a.dictionaries b.dictionaries
 
 -- What a call that sends these bytes does to its device, and what a refused call leaves. If it
--- returns Ok, no call of the device failed.
+-- returns Ok, no call of the device failed. If it returns `Io`, that is the device's own error.
 pub record SendStep {W : Type 0} (d : Device W) (a : WriterSeen W) (r : Result Unit Fault) (b : WriterSeen W) (bytes : List ℕ) (count : ℕ) : Type 0 where
   pub monotone : d.failures a.device ≤ d.failures b.device
   pub order : b.order ≡ a.order
   pub io : OnIo r ((b.state ≡ Failed) × FailsOrIsFull d.grows (d.failures a.device) (d.failures b.device) (d.room a.device) count)
+  pub answered : IfIo r (IsAnswered d)
   pub refused : OnRefused r (Kept a b)
   pub done : OnOk r (d.failures b.device ≡ d.failures a.device)
   pub all_sent : IsTrue d.is_memory → OnOk r (WritesOver (d.memory a.device) (d.memory b.device) bytes)

@@ -1,7 +1,7 @@
 //! Writes streams.
 //!
 //! Arrow columnar format, "IPC Streaming Format".
-ghost use Rattle.std.specs.Prelude.{◌≡◌, ◌≤◌, ◌^◌, All, [], pos, length, map, IfErr, IfOk, IfSome, MatchResult, OnOk};
+ghost use Rattle.std.specs.Prelude.{◌≡◌, ◌≤◌, ◌^◌, All, [], pos, length, map, IfErr, IfOk, IfSome, IsTrue, MatchResult, OnOk};
 ghost use Rattle.std.specs.Int.{next_multiple_of};
 ghost use Rattle.lower.specs.TypeViews.{fields_view, pairs_of};
 ghost use Rattle.lower_arrays.specs.AnyLayouts.{layout_of};
@@ -115,6 +115,7 @@ fn send_chunk<W: Writes>(
 // Sends the end mark of a stream, and flushes the device.
 fn send_mark<W: Writes>(writer: &mut W) -> Result<(), Fault>
     ensures sends { Delivers W.device (prefix_bytes (pos 0)) writer.old result writer.new }
+    ensures flushed { OnOk result (IsTrue (W.device.is_flushed writer.new)) }
 {
     write_continuation(writer, 0)?;
     writer.flush()?;

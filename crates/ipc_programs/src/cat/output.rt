@@ -1,27 +1,23 @@
-//! A borrowed output, and whether it was flushed since the last write.
+//! A borrowed output.
 ghost use Rattle.std.specs.Prelude.{◌≡◌};
 ghost use Rattle.ipc_programs.specs.Outputs.{FlushesOutput, WritesOutput};
 
 use arrow2_ipc::io::ipc::fault::{Fault, Writes};
 use ipc_write::common_sync::write_all;
 
-/// A borrowed device, and whether it was flushed since the last write.
+/// A borrowed device.
 #[derive(Drop)]
 pub struct Output<'a, W> {
     device: &'a mut W,
-    is_flushed: bool,
 }
 
 impl<'a, W: Writes> Output<'a, W> {
-    /// Borrows a device. It counts as not flushed.
+    /// Borrows a device.
     pub fn new(device: &'a mut W) -> Output<'a, W>
         ensures same_reference { result.device.ghost_name ≡ device.entry.ghost_name }
         ensures now { result.device.now ≡ device.entry.now }
     {
-        Output {
-            device,
-            is_flushed: false,
-        }
+        Output { device }
     }
 
     /// The borrowed device.
@@ -36,7 +32,6 @@ impl<'a, W: Writes> Output<'a, W> {
     pub fn write_all(&mut self, bytes: &[u8]) -> Result<(), Fault>
         ensures { WritesOutput W.device self.old result self.new bytes.now }
     {
-        self.is_flushed = false;
         write_all(&mut *self.device, bytes)
     }
 
@@ -45,7 +40,6 @@ impl<'a, W: Writes> Output<'a, W> {
         ensures { FlushesOutput W.device self.old result self.new }
     {
         self.device.flush()?;
-        self.is_flushed = true;
         Ok(())
     }
 }

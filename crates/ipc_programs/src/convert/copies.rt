@@ -9,12 +9,12 @@ ghost use Rattle.ipc_programs.specs.Refusals.{AppendInputCause, CopyInputCause, 
 ghost use Rattle.ipc_programs.specs.Written.{CopiesInput, CopiesOpened};
 
 use crate::convert::forms::Target;
-use crate::convert::lent::{LentReader, LentWriter};
 use arrow2_ipc::io::ipc::fault::{Fault, Reads, Seeks, Writes};
 use arrow2_ipc::io::ipc::write::WriteOptions;
 use ipc_convert::append::append_stream;
 use ipc_convert::files::{file_to_file, stream_to_file};
 use ipc_convert::streams::{file_to_stream, stream_to_stream};
+use ipc_devices::itself;
 use std::alloc::Global;
 
 /// Copies the stream `input` to `out`, as the target says.
@@ -68,6 +68,7 @@ pub fn append_input<F: Reads + Writes + Seeks + Drop, R: Reads>(
     ensures takes { IfOk result (λ device. TakesStream R.gives input.old input.new) }
     ensures done { IfOk result (λ device.
         NoneFailed F.device.failures R.device.failures file input.old device input.new) }
+    ensures flushed { IfOk result (λ device. IsTrue (F.device.is_flushed device)) }
     ensures appends { IsTrue F.device.is_memory → (F.device.memory file).place ≡ 0
         → IfOk result (λ device. CopiesStream R.gives input.old input.new
         (λ schema chunks _. AppendsTo (F.device.memory file).whole (F.device.memory device).whole
@@ -75,8 +76,8 @@ pub fn append_input<F: Reads + Writes + Seeks + Drop, R: Reads>(
     ensures refused { IfErr result (λ e. OwnFault e
         (AppendInputCause R.gives R.device input.old F.device file e)) }
 {
-    let (file, input) = append_stream(alloc, file, LentReader::new(input))?;
-    input.into_inner();
+    let (file, input) = append_stream(alloc, file, input)?;
+    itself(input);
     Ok(file)
 }
 
@@ -96,14 +97,9 @@ fn input_to_stream<R: Reads, O: Writes>(
         (CopyInputCause R.gives R.device input.old O.device out.old Target.Stream write_options
         e)) }
 {
-    let (input, out) = stream_to_stream(
-        alloc,
-        LentReader::new(input),
-        LentWriter::new(out),
-        write_options,
-    )?;
-    input.into_inner();
-    out.into_inner();
+    let (input, out) = stream_to_stream(alloc, input, out, write_options)?;
+    itself(input);
+    itself(out);
     Ok(())
 }
 
@@ -122,14 +118,9 @@ fn input_to_file<R: Reads, O: Writes>(
     ensures refused { IfErr result (λ e. OwnFault e
         (CopyInputCause R.gives R.device input.old O.device out.old Target.File write_options e)) }
 {
-    let (input, out) = stream_to_file(
-        alloc,
-        LentReader::new(input),
-        LentWriter::new(out),
-        write_options,
-    )?;
-    input.into_inner();
-    out.into_inner();
+    let (input, out) = stream_to_file(alloc, input, out, write_options)?;
+    itself(input);
+    itself(out);
     Ok(())
 }
 
@@ -146,9 +137,9 @@ fn opened_to_stream<F: Reads + Seeks + Drop, O: Writes>(
     ensures refused { IfErr result (λ e. OwnFault e (CopyOpenedCause F.device file O.device
         out.old Target.Stream write_options e)) }
 {
-    let (file, out) = file_to_stream(alloc, file, LentWriter::new(out), write_options)?;
+    let (file, out) = file_to_stream(alloc, file, out, write_options)?;
     drop(file);
-    out.into_inner();
+    itself(out);
     Ok(())
 }
 
@@ -164,8 +155,8 @@ fn opened_to_file<F: Reads + Seeks + Drop, O: Writes>(
     ensures refused { IfErr result (λ e. OwnFault e (CopyOpenedCause F.device file O.device
         out.old Target.File write_options e)) }
 {
-    let (file, out) = file_to_file(alloc, file, LentWriter::new(out), write_options)?;
+    let (file, out) = file_to_file(alloc, file, out, write_options)?;
     drop(file);
-    out.into_inner();
+    itself(out);
     Ok(())
 }

@@ -1,7 +1,7 @@
 //! Reads dictionary batches.
 ghost use Rattle.std.specs.Prelude.{◌≡◌, ◌+◌, ◌++◌, ◌≤◌, [], ◌∷◌, None, Some, IsSome, IfErr, IfOk, IsTrue, MatchOption};
-ghost use Rattle.ipc_devices.specs.Device.{Rises};
-ghost use Rattle.ipc_devices.specs.Faults.{OnIo, UnlessIo, OwnFault, Answers};
+ghost use Rattle.ipc_devices.specs.Acts.{ReadsDevice};
+ghost use Rattle.ipc_devices.specs.Faults.{OnIo, OwnFault, Answers};
 ghost use Rattle.lower.specs.Counts.{nodes, buffers};
 ghost use Rattle.lower.specs.TypeViews.{type_view, fields_view};
 ghost use Rattle.ipc_base.specs.IdTrees.{all_ids_view};
@@ -136,10 +136,7 @@ fn read_values<R: Reads + Seeks>(
         (record
         { source = (R.device.memory reader.old).whole; base = block_offset; size = file_size })
         batch.entry) }
-    ensures monotone { R.device.failures reader.old ≤ R.device.failures reader.new }
-    ensures failed { OnIo result
-        (Rises (R.device.failures reader.old) (R.device.failures reader.new)) }
-    ensures told { UnlessIo result (R.device.failures reader.new ≡ R.device.failures reader.old) }
+    ensures device { ReadsDevice R.device reader.old result reader.new }
     ensures given { let schema = values_schema (record { id = None; type = type_view value_type.now; ids = all_ids_view ids.now }) (order_of is_little_endian) in
         R.device.given reader.new
         ≤ R.device.given reader.old
@@ -152,9 +149,6 @@ fn read_values<R: Reads + Seeks>(
         (record
         { source = (R.device.memory reader.old).whole; base = block_offset; size = file_size })
         batch.entry u result }
-    ensures whole { IsTrue R.device.is_read_only
-        → (R.device.memory reader.new).whole ≡ (R.device.memory reader.old).whole }
-    ensures names { R.device.names reader.new ≡ R.device.names reader.old }
 {
     let (nodes, buffers) = entries_of(&batch)?;
     check_lengths(&buffers, file_size)?;

@@ -1,7 +1,8 @@
 //! Reads numbers, bits, bytes and offsets from the buffers of a batch.
 ghost use Rattle.std.specs.Prelude.{◌≡◌, ◌+◌, ◌*◌, ◌-◌, ◌<◌, ◌≤◌, ◌^◌, ◌↔◌, length, take, drop, vec_len, IsTrue, IfOk, IfErr, IfSome, IsNone, MatchBool, min, ℕ, pos, List, [], ◌∷◌, refl};
-ghost use Rattle.ipc_devices.specs.Device.{Rises, after};
-ghost use Rattle.ipc_devices.specs.Faults.{OnIo, UnlessIo, OwnFault, Answers};
+ghost use Rattle.ipc_devices.specs.Acts.{ReadsDevice};
+ghost use Rattle.ipc_devices.specs.Device.{after};
+ghost use Rattle.ipc_devices.specs.Faults.{OnIo, OwnFault, Answers};
 ghost use Rattle.ipc_devices.specs.Gives.{going};
 ghost use Rattle.ipc_devices.specs.declared.fault.Fault.TheVariants.{Ended, OutOfSpec};
 ghost use Rattle.ipc_devices.specs.declared.fault.OutOfSpecKind.TheVariants.{NegativeFooterLength};
@@ -64,19 +65,13 @@ pub fn read_numbers<T: NativeType, R: Reads>(
 ) -> Result<Vec<T>, Fault>
     ensures count { IfOk result (λ v. vec_len v ≡ count) }
     ensures only { IfErr result (λ e. OwnFault e (e ≡ Ended)) }
-    ensures monotone { R.device.failures reader.old ≤ R.device.failures reader.new }
-    ensures failed { OnIo result
-        (Rises (R.device.failures reader.old) (R.device.failures reader.new)) }
-    ensures told { UnlessIo result (R.device.failures reader.new ≡ R.device.failures reader.old) }
+    ensures device { ReadsDevice R.device reader.old result reader.new }
     ensures given { R.device.given reader.new ≤ R.device.given reader.old + T.width * count }
     ensures memory { IsTrue R.device.is_memory → Answers result
         (T.width * count ≤ length (after (R.device.memory reader.old)))
         (λ v. v.items
         ≡ values_of (T.value order) T.width
         (take (T.width * count) (after (R.device.memory reader.old)))) }
-    ensures whole { IsTrue R.device.is_read_only
-        → (R.device.memory reader.new).whole ≡ (R.device.memory reader.old).whole }
-    ensures names { R.device.names reader.new ≡ R.device.names reader.old }
 {
     match take_shown(alloc, reader, count, order)? {
         Some(numbers) => Ok(numbers),
@@ -94,10 +89,7 @@ fn take_shown<T: NativeType, R: Reads>(
 ) -> Result<Option<Vec<T>>, Fault>
     ensures count { IfOk result (λ r. IfSome r (λ v. vec_len v ≡ count)) }
     ensures only { IfErr result (λ e. OwnFault e ⊥) }
-    ensures monotone { R.device.failures reader.old ≤ R.device.failures reader.new }
-    ensures failed { OnIo result
-        (Rises (R.device.failures reader.old) (R.device.failures reader.new)) }
-    ensures told { UnlessIo result (R.device.failures reader.new ≡ R.device.failures reader.old) }
+    ensures device { ReadsDevice R.device reader.old result reader.new }
     ensures given { R.device.given reader.new ≤ R.device.given reader.old + T.width * count }
     ensures none { IfOk result (λ r. IsNone r → R.gives reader.old [] going reader.new) }
     ensures idle { IfOk result
@@ -107,9 +99,6 @@ fn take_shown<T: NativeType, R: Reads>(
         × (v.items
         ≡ values_of (T.value order) T.width
         (take (T.width * count) (after (R.device.memory reader.old)))))) }
-    ensures whole { IsTrue R.device.is_read_only
-        → (R.device.memory reader.new).whole ≡ (R.device.memory reader.old).whole }
-    ensures names { R.device.names reader.new ≡ R.device.names reader.old }
 {
     let Some(length) = count.checked_mul(T::width()) else {
         return Ok(None);
@@ -136,19 +125,13 @@ fn read_pieces<T: NativeType, R: Reads>(
 ) -> Result<Vec<T>, Fault>
     ensures count { IfOk result (λ v. vec_len v ≡ count) }
     ensures only { IfErr result (λ e. OwnFault e (e ≡ Ended)) }
-    ensures monotone { R.device.failures reader.old ≤ R.device.failures reader.new }
-    ensures failed { OnIo result
-        (Rises (R.device.failures reader.old) (R.device.failures reader.new)) }
-    ensures told { UnlessIo result (R.device.failures reader.new ≡ R.device.failures reader.old) }
+    ensures device { ReadsDevice R.device reader.old result reader.new }
     ensures given { R.device.given reader.new ≤ R.device.given reader.old + T.width * count }
     ensures memory { IsTrue R.device.is_memory → Answers result
         (T.width * count ≤ length (after (R.device.memory reader.old)))
         (λ v. v.items
         ≡ values_of (T.value order) T.width
         (take (T.width * count) (after (R.device.memory reader.old)))) }
-    ensures whole { IsTrue R.device.is_read_only
-        → (R.device.memory reader.new).whole ≡ (R.device.memory reader.old).whole }
-    ensures names { R.device.names reader.new ≡ R.device.names reader.old }
 {
     let mut numbers = Vec::new(alloc);
     let mut block = [0u8; BLOCK];
@@ -174,10 +157,7 @@ fn take_shown_bytes<R: Reads>(
 ) -> Result<Option<Vec<u8>>, Fault>
     ensures count { IfOk result (λ r. IfSome r (λ v. length v.items ≡ count)) }
     ensures only { IfErr result (λ e. OwnFault e ⊥) }
-    ensures monotone { R.device.failures reader.old ≤ R.device.failures reader.new }
-    ensures failed { OnIo result
-        (Rises (R.device.failures reader.old) (R.device.failures reader.new)) }
-    ensures told { UnlessIo result (R.device.failures reader.new ≡ R.device.failures reader.old) }
+    ensures device { ReadsDevice R.device reader.old result reader.new }
     ensures given { R.device.given reader.new ≤ R.device.given reader.old + count }
     ensures none { IfOk result (λ r. IsNone r → R.gives reader.old [] going reader.new) }
     ensures idle { IfOk result
@@ -185,9 +165,6 @@ fn take_shown_bytes<R: Reads>(
     ensures memory { IsTrue R.device.is_memory → IfOk result (λ r. IfSome r (λ v.
         (count ≤ length (after (R.device.memory reader.old)))
         × (v.items ≡ take count (after (R.device.memory reader.old))))) }
-    ensures whole { IsTrue R.device.is_read_only
-        → (R.device.memory reader.new).whole ≡ (R.device.memory reader.old).whole }
-    ensures names { R.device.names reader.new ≡ R.device.names reader.old }
 {
     // `given` is called for the proof alone: it states how many bytes `pass` read.
     let Some(bytes) = reader.pass(count) else {
@@ -204,17 +181,11 @@ fn read_next_bytes<R: Reads>(alloc: Global, reader: &mut R, count: usize) -> Res
     requires small { count < 2 ^ 63 }
     ensures count { IfOk result (λ v. length v.items ≡ count) }
     ensures only { IfErr result (λ e. OwnFault e (e ≡ Ended)) }
-    ensures monotone { R.device.failures reader.old ≤ R.device.failures reader.new }
-    ensures failed { OnIo result
-        (Rises (R.device.failures reader.old) (R.device.failures reader.new)) }
-    ensures told { UnlessIo result (R.device.failures reader.new ≡ R.device.failures reader.old) }
+    ensures device { ReadsDevice R.device reader.old result reader.new }
     ensures given { R.device.given reader.new ≤ R.device.given reader.old + count }
     ensures memory { IsTrue R.device.is_memory → Answers result
         (count ≤ length (after (R.device.memory reader.old)))
         (λ v. v.items ≡ take count (after (R.device.memory reader.old))) }
-    ensures whole { IsTrue R.device.is_read_only
-        → (R.device.memory reader.new).whole ≡ (R.device.memory reader.old).whole }
-    ensures names { R.device.names reader.new ≡ R.device.names reader.old }
 {
     match take_shown_bytes(alloc, reader, count)? {
         Some(bytes) => Ok(bytes),
@@ -234,19 +205,13 @@ fn read_numbers_at<T: NativeType, R: Reads + Seeks>(
     requires { 0 < count }
     ensures count { IfOk result (λ v. vec_len v ≡ count) }
     ensures only { IfErr result (λ e. OwnFault e (e ≡ Ended)) }
-    ensures monotone { R.device.failures reader.old ≤ R.device.failures reader.new }
-    ensures failed { OnIo result
-        (Rises (R.device.failures reader.old) (R.device.failures reader.new)) }
-    ensures told { UnlessIo result (R.device.failures reader.new ≡ R.device.failures reader.old) }
+    ensures device { ReadsDevice R.device reader.old result reader.new }
     ensures given { R.device.given reader.new ≤ R.device.given reader.old + T.width * count }
     ensures memory { IsTrue R.device.is_memory → Answers result
         (T.width * count ≤ length (drop (base + offset) (R.device.memory reader.old).whole))
         (λ v. v.items
         ≡ values_of (T.value order) T.width
         (take (T.width * count) (drop (base + offset) (R.device.memory reader.old).whole))) }
-    ensures whole { IsTrue R.device.is_read_only
-        → (R.device.memory reader.new).whole ≡ (R.device.memory reader.old).whole }
-    ensures names { R.device.names reader.new ≡ R.device.names reader.old }
 {
     let Some(place) = base.checked_add(offset as u64) else {
         // for the proof: the end of the device, a `u64`, is before this offset
@@ -269,17 +234,11 @@ fn read_bytes_at<R: Reads + Seeks>(
     requires small { count < 2 ^ 63 }
     ensures count { IfOk result (λ v. length v.items ≡ count) }
     ensures only { IfErr result (λ e. OwnFault e (e ≡ Ended)) }
-    ensures monotone { R.device.failures reader.old ≤ R.device.failures reader.new }
-    ensures failed { OnIo result
-        (Rises (R.device.failures reader.old) (R.device.failures reader.new)) }
-    ensures told { UnlessIo result (R.device.failures reader.new ≡ R.device.failures reader.old) }
+    ensures device { ReadsDevice R.device reader.old result reader.new }
     ensures given { R.device.given reader.new ≤ R.device.given reader.old + count }
     ensures memory { IsTrue R.device.is_memory → Answers result
         (count ≤ length (drop (base + offset) (R.device.memory reader.old).whole))
         (λ v. v.items ≡ take count (drop (base + offset) (R.device.memory reader.old).whole)) }
-    ensures whole { IsTrue R.device.is_read_only
-        → (R.device.memory reader.new).whole ≡ (R.device.memory reader.old).whole }
-    ensures names { R.device.names reader.new ≡ R.device.names reader.old }
 {
     let Some(place) = base.checked_add(offset as u64) else {
         // for the proof: the end of the device, a `u64`, is before this offset

@@ -2,7 +2,8 @@
 //!
 //! Arrow columnar format, "Encapsulated message format".
 ghost use Rattle.std.specs.Prelude.{IfErr};
-ghost use Rattle.ipc_devices.specs.Faults.{OwnFault};
+ghost use Rattle.ipc_devices.specs.Device.{IsAnswered};
+ghost use Rattle.ipc_devices.specs.Faults.{IfIo, OwnFault};
 ghost use Rattle.ipc_devices.specs.declared.fault.Fault.TheVariants.{Ended, OutOfSpec};
 ghost use Rattle.ipc_devices.specs.declared.fault.OutOfSpecKind.TheVariants.{NegativeFooterLength};
 ghost use Rattle.ipc_readers.specs.Frames.{begun_bytes, FrameGave, IsFramingFault, SizedGave, WordGave};
@@ -19,6 +20,7 @@ impl Begun {
     // The next 4 bytes as a number. If there are fewer, they are kept.
     fn word<R: Reads>(&mut self, reader: &mut R) -> io::Result<Option<u32>>
         ensures gives { WordGave R.gives (begun_bytes self.old) reader.old result (begun_bytes self.new) reader.new }
+        ensures answered { IfErr result (IsAnswered R.device) }
     {
         let n = fill(reader, &mut self.bytes[self.count..])?;
         if n < 4 - self.count {
@@ -34,6 +36,7 @@ impl Begun {
 fn read_sized<R: Reads>(reader: &mut R, size: u32, metadata: &mut Vec<u8>) -> Result<Frame, Fault>
     ensures only { IfErr result (λ e. OwnFault e (IsFramingFault e)) }
     ensures gives { SizedGave R.gives size reader.old result metadata.new.items reader.new }
+    ensures answered { IfIo result (IsAnswered R.device) }
 {
     if size > i32::MAX as u32 {
         return Err(Fault::OutOfSpec(OutOfSpecKind::NegativeFooterLength));
@@ -69,6 +72,7 @@ pub fn read_frame<R: Reads>(
     ensures only { IfErr result (λ e. OwnFault e (IsFramingFault e)) }
     ensures gives { FrameGave R.gives (begun_bytes begun.old) reader.old result metadata.new.items
         (begun_bytes begun.new) reader.new }
+    ensures answered { IfIo result (IsAnswered R.device) }
 {
     let Some(first) = begun.word(reader)? else {
         return Ok(Frame::Waiting);

@@ -43,3 +43,8 @@ returns-in_err-ending-clause-stops g c =
 
 pub returns-clause-stops : goal.returns-clause-stops
 returns-clause-stops g c = too_many g.S.Source.came g.S.Source.breaks g.T.Sink.took g.T.Sink.refuses _ _ _ _ _ c.loop.invariant.many c.loop-test.false
+
+pub returns-in_err-ending-clause-answered : goal.returns-in_err-ending-clause-answered
+returns-in_err-ending-clause-answered g c =
+    let p = err_from_is_err_and c.from_residual.result c.from_residual.ensures.1 in
+    rw (p.1, p.2) c.in_err-ending.ensures.answered

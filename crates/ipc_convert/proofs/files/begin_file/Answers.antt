@@ -3,6 +3,7 @@ use Rattle.std.proofs.lemmas.Result.{err_from_is_err_and}
 use Rattle.lower.specs.TypeViews.{fields_view, pairs_of}
 use Rattle.ipc_base.specs.IdTrees.{all_ids_view}
 use Rattle.ipc_file_write.specs.FileWriters.{seen}
+use Rattle.ipc_convert.proofs.Answered.{pairs_answer_none}
 use Rattle.ipc_convert.proofs.CopyFaults.{begin_refused, pairs_refused}
 use Rattle.ipc_convert.proofs.Failing.{file_step_fails, pairs_say_none, send_fails}
 use Rattle.ipc_convert.proofs.Taken.{file_begun}
@@ -44,3 +45,13 @@ returns-in_err-start-clause-failed g c =
 
 pub returns-clause-done : goal.returns-clause-done
 returns-clause-done g c = c.in_ok-start.ensures.starts.device.step.done ∙ ap g.W.Failures.device.failures (c.in_ok-set_custom_metadata.ensures.sets.state.ok.device ∙ c.in_ok-writer.ensures.made.device)
+
+pub returns-in_err-set_custom_metadata-clause-answered : goal.returns-in_err-set_custom_metadata-clause-answered
+returns-in_err-set_custom_metadata-clause-answered g c =
+    let p = err_from_is_err_and c.from_residual-in_err-set_custom_metadata.result c.from_residual-in_err-set_custom_metadata.ensures.1 in
+    rw (p.1, p.2) (pairs_answer_none (seen c.in_ok-writer.writer) (pairs_of c.args.pairs.entries) c.in_err-set_custom_metadata.field-0.0 _ c.in_err-set_custom_metadata.ensures.sets.causes)
+
+pub returns-in_err-start-clause-answered : goal.returns-in_err-start-clause-answered
+returns-in_err-start-clause-answered g c =
+    let p = err_from_is_err_and c.from_residual-in_err-start.result c.from_residual-in_err-start.ensures.1 in
+    rw (p.1, p.2) c.in_err-start.ensures.starts.device.step.answered

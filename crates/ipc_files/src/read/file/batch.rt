@@ -1,8 +1,8 @@
 //! Reads the record batch at a block of a file.
 ghost use Rattle.std.specs.Prelude.{◌≡◌, ◌+◌, ◌≤◌, ◌<◌, length, map, vec_len, IsTrue, IfOk, IfErr};
 ghost use Rattle.std.specs.Option.{option_copied};
-ghost use Rattle.ipc_devices.specs.Device.{Rises};
-ghost use Rattle.ipc_devices.specs.Faults.{OnIo, UnlessIo, OwnFault};
+ghost use Rattle.ipc_devices.specs.Acts.{ReadsDevice};
+ghost use Rattle.ipc_devices.specs.Faults.{OwnFault};
 ghost use Rattle.ipc_model.specs.Batches.{chosen, extra_of, kinds, lists_of, record_meaning};
 ghost use Rattle.ipc_model.specs.ReadChunks.{HaveMeaning};
 ghost use Rattle.ipc_base.specs.IdTrees.{all_ids_view};
@@ -57,10 +57,7 @@ fn read_record<R: Reads + Seeks>(
     ensures only { let js = chosen (option_copied projection.entry) (length metadata.now.schema.fields.items) in
         IfErr result (λ e. OwnFault e (IsFaultOfBatch (kinds (file_seen metadata.now).schema) js e)) }
     ensures lists { IfErr result (TellsBatch (file_seen metadata.now).schema (extra_of version) batch.entry metadata.now.size) }
-    ensures monotone { R.device.failures reader.old ≤ R.device.failures reader.new }
-    ensures failed { OnIo result
-        (Rises (R.device.failures reader.old) (R.device.failures reader.new)) }
-    ensures told { UnlessIo result (R.device.failures reader.new ≡ R.device.failures reader.old) }
+    ensures device { ReadsDevice R.device reader.old result reader.new }
     ensures given { let js = chosen (option_copied projection.entry) (length metadata.now.schema.fields.items) in
         R.device.given reader.new
         ≤ R.device.given reader.old
@@ -77,9 +74,6 @@ fn read_record<R: Reads + Seeks>(
         (length metadata.now.schema.fields.items) in
         IfOk result (λ xs. HaveMeaning (known_dictionaries dictionaries.now) (all_ids_view metadata.now.ipc_schema.fields.items) js (chunk_seen xs) (map layout_of xs)) }
     ensures idle { scratch.new ≡ scratch.old }
-    ensures whole { IsTrue R.device.is_read_only
-        → (R.device.memory reader.new).whole ≡ (R.device.memory reader.old).whole }
-    ensures names { R.device.names reader.new ≡ R.device.names reader.old }
 {
     read_record_batch(
         alloc,

@@ -2,8 +2,9 @@
 //!
 //! Arrow columnar format, "IPC File Format" and "Encapsulated message format".
 ghost use Rattle.std.specs.Prelude.{◌≡◌, ◌+◌, ◌≤◌, length, drop, IsTrue, IfErr, OnOk};
-ghost use Rattle.ipc_devices.specs.Device.{Rises, after};
-ghost use Rattle.ipc_devices.specs.Faults.{OnIo, UnlessIo, OwnFault, Answers};
+ghost use Rattle.ipc_devices.specs.Acts.{ReadsDevice};
+ghost use Rattle.ipc_devices.specs.Device.{after};
+ghost use Rattle.ipc_devices.specs.Faults.{OnIo, OwnFault, Answers};
 ghost use Rattle.ipc_devices.specs.declared.fault.Fault.TheVariants.{Ended, OutOfSpec};
 ghost use Rattle.ipc_table_views.specs.MessageSlots.{message_version};
 ghost use Rattle.ipc_model.specs.Files.{block_header, placed};
@@ -53,10 +54,7 @@ pub(super) fn place_of(block: &Block, negative: OutOfSpecKind) -> Result<BlockPl
 // The next 4 bytes as a number.
 fn read_word<R: Reads>(reader: &mut R) -> Result<u32, Fault>
     ensures only { IfErr result (λ e. OwnFault e (e ≡ Ended)) }
-    ensures monotone { R.device.failures reader.old ≤ R.device.failures reader.new }
-    ensures failed { OnIo result
-        (Rises (R.device.failures reader.old) (R.device.failures reader.new)) }
-    ensures told { UnlessIo result (R.device.failures reader.new ≡ R.device.failures reader.old) }
+    ensures device { ReadsDevice R.device reader.old result reader.new }
     ensures given { R.device.given reader.new ≤ R.device.given reader.old + 4 }
     ensures left { IsTrue R.device.is_memory
         → OnOk result
@@ -64,9 +62,6 @@ fn read_word<R: Reads>(reader: &mut R) -> Result<u32, Fault>
     ensures memory { IsTrue R.device.is_memory
         → Answers result (4 ≤ length (after (R.device.memory reader.old)))
         (λ n. n ≡ word (after (R.device.memory reader.old))) }
-    ensures whole { IsTrue R.device.is_read_only
-        → (R.device.memory reader.new).whole ≡ (R.device.memory reader.old).whole }
-    ensures names { R.device.names reader.new ≡ R.device.names reader.old }
 {
     let mut bytes = [0; 4];
     read_exact(reader, &mut bytes)?;
@@ -76,19 +71,13 @@ fn read_word<R: Reads>(reader: &mut R) -> Result<u32, Fault>
 // The length that a prefix states: after the continuation marker, or alone in the older form.
 fn read_prefix<R: Reads>(reader: &mut R) -> Result<u32, Fault>
     ensures only { IfErr result (λ e. OwnFault e (e ≡ Ended)) }
-    ensures monotone { R.device.failures reader.old ≤ R.device.failures reader.new }
-    ensures failed { OnIo result
-        (Rises (R.device.failures reader.old) (R.device.failures reader.new)) }
-    ensures told { UnlessIo result (R.device.failures reader.new ≡ R.device.failures reader.old) }
+    ensures device { ReadsDevice R.device reader.old result reader.new }
     ensures given { R.device.given reader.new ≤ R.device.given reader.old + 8 }
     ensures number { IsTrue R.device.is_memory
         → GivesPart (λ n. n) result (prefix_of (after (R.device.memory reader.old))) }
     ensures memory { IsTrue R.device.is_memory
         → GivesPrefix (frame (after (R.device.memory reader.old))) result
         (after (R.device.memory reader.new)) }
-    ensures whole { IsTrue R.device.is_read_only
-        → (R.device.memory reader.new).whole ≡ (R.device.memory reader.old).whole }
-    ensures names { R.device.names reader.new ≡ R.device.names reader.old }
 {
     let first = read_word(reader)?;
     if first != CONTINUATION {
@@ -108,10 +97,7 @@ pub(super) fn read_metadata<R: Reads + Seeks>(
     metadata: &mut Vec<u8>,
 ) -> Result<(), Fault>
     ensures only { IfErr result (λ e. OwnFault e (IsFrameFault negative e)) }
-    ensures monotone { R.device.failures reader.old ≤ R.device.failures reader.new }
-    ensures failed { OnIo result
-        (Rises (R.device.failures reader.old) (R.device.failures reader.new)) }
-    ensures told { UnlessIo result (R.device.failures reader.new ≡ R.device.failures reader.old) }
+    ensures device { ReadsDevice R.device reader.old result reader.new }
     ensures given { MetadataGiven R.device.is_memory (drop place (R.device.memory reader.old).whole)
         result metadata.new.items
         (R.device.given reader.old) (R.device.given reader.new) }
@@ -121,9 +107,6 @@ pub(super) fn read_metadata<R: Reads + Seeks>(
         (e ≡ frame_fault negative (prefix_of (drop place (R.device.memory reader.old).whole)))) }
     ensures memory { IsTrue R.device.is_memory → GivesPart (λ _. metadata.new.items) result
         (stated_metadata (frame (drop place (R.device.memory reader.old).whole))) }
-    ensures whole { IsTrue R.device.is_read_only
-        → (R.device.memory reader.new).whole ≡ (R.device.memory reader.old).whole }
-    ensures names { R.device.names reader.new ≡ R.device.names reader.old }
 {
     reader.seek_to(place)?;
     let length = read_prefix(reader)?;

@@ -1,7 +1,7 @@
 //! Reads the dictionaries of a file.
 ghost use Rattle.std.specs.Prelude.{◌≡◌, ◌+◌, ◌≤◌, Some, None, Err, IsTrue, IfErr, OnOk};
-ghost use Rattle.ipc_devices.specs.Device.{Rises};
-ghost use Rattle.ipc_devices.specs.Faults.{OnIo, UnlessIo, OwnFault};
+ghost use Rattle.ipc_devices.specs.Acts.{ReadsDevice};
+ghost use Rattle.ipc_devices.specs.Faults.{OwnFault};
 ghost use Rattle.ipc_devices.specs.declared.fault.Fault.TheVariants.{OutOfSpec};
 ghost use Rattle.ipc_devices.specs.declared.fault.OutOfSpecKind.TheVariants.{UnexpectedNegativeInteger};
 ghost use Rattle.ipc_model.specs.Batches.{dictionary_meaning, extra_of};
@@ -49,10 +49,7 @@ fn read_values<R: Reads + Seeks>(
     ensures only { IfErr result (λ e. OwnFault e (IsDictionaryFault e)) }
     ensures blames { IfErr result (λ e. OwnFault e (BlamesDictionary (file_seen metadata.now).schema batch.entry e)) }
     ensures lists { IfErr result (TellsValues (file_seen metadata.now).schema (extra_of version) batch.entry metadata.now.size) }
-    ensures monotone { R.device.failures reader.old ≤ R.device.failures reader.new }
-    ensures failed { OnIo result
-        (Rises (R.device.failures reader.old) (R.device.failures reader.new)) }
-    ensures told { UnlessIo result (R.device.failures reader.new ≡ R.device.failures reader.old) }
+    ensures device { ReadsDevice R.device reader.old result reader.new }
     ensures given { R.device.given reader.new
         ≤ R.device.given reader.old
         + values_listed (file_seen metadata.now).schema (extra_of version) batch.entry }
@@ -64,9 +61,6 @@ fn read_values<R: Reads + Seeks>(
         (record { source = (R.device.memory reader.old).whole; base = body; size = m.size })
         batch.entry) }
     ensures idle { scratch.new ≡ scratch.old }
-    ensures whole { IsTrue R.device.is_read_only
-        → (R.device.memory reader.new).whole ≡ (R.device.memory reader.old).whole }
-    ensures names { R.device.names reader.new ≡ R.device.names reader.old }
 {
     read_dictionary(
         alloc,
@@ -94,10 +88,7 @@ fn read_dictionary_block<R: Reads + Seeks>(
     data_scratch: &mut Vec<u8>,
 ) -> Result<(), Fault>
     ensures only { IfErr result (λ e. OwnFault e (IsDictionaryBlockFault e)) }
-    ensures monotone { R.device.failures reader.old ≤ R.device.failures reader.new }
-    ensures failed { OnIo result
-        (Rises (R.device.failures reader.old) (R.device.failures reader.new)) }
-    ensures told { UnlessIo result (R.device.failures reader.new ≡ R.device.failures reader.old) }
+    ensures device { ReadsDevice R.device reader.old result reader.new }
     ensures given { BlockGiven R.device.is_memory (needed_values (file_seen metadata.now).schema)
         (R.device.memory reader.old).whole (Some block.now)
         message_scratch.new.items result (R.device.given reader.old) (R.device.given reader.new) }
@@ -118,9 +109,6 @@ fn read_dictionary_block<R: Reads + Seeks>(
         (dictionaries_at (file_seen metadata.now) (known_dictionaries dictionaries.old)
         (R.device.memory reader.old).whole block.now) }
     ensures idle { data_scratch.new ≡ data_scratch.old }
-    ensures whole { IsTrue R.device.is_read_only
-        → (R.device.memory reader.new).whole ≡ (R.device.memory reader.old).whole }
-    ensures names { R.device.names reader.new ≡ R.device.names reader.old }
 {
     let place = place_of(block, OutOfSpecKind::UnexpectedNegativeInteger)?;
     let negative = OutOfSpecKind::NegativeFooterLength;

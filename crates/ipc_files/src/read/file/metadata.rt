@@ -1,7 +1,8 @@
 //! The metadata of a file, which are in its footer.
 ghost use Rattle.std.specs.Prelude.{◌≡◌, ◌+◌, ◌≤◌, ◌<◌, ◌^◌, take, IsTrue, IfOk, IfErr};
-ghost use Rattle.ipc_devices.specs.Device.{Rises, after};
-ghost use Rattle.ipc_devices.specs.Faults.{OnIo, UnlessIo, OwnFault, Answers};
+ghost use Rattle.ipc_devices.specs.Acts.{ReadsDevice};
+ghost use Rattle.ipc_devices.specs.Device.{after};
+ghost use Rattle.ipc_devices.specs.Faults.{OnIo, OwnFault, Answers};
 ghost use Rattle.ipc_model.specs.Files.{magic, or_no_blocks};
 ghost use Rattle.ipc_files.specs.Api.{CopiesMetadata, ReadsMetadata};
 ghost use Rattle.ipc_files.specs.Footers.{optional_blocks};
@@ -80,19 +81,13 @@ pub fn files_from_the_beginning()
 // Checks that a file begins with `ARROW1`.
 fn read_head<R: Reads>(reader: &mut R) -> Result<(), Fault>
     ensures only { IfErr result (λ e. OwnFault e (HeadFault e)) }
-    ensures monotone { R.device.failures reader.old ≤ R.device.failures reader.new }
-    ensures failed { OnIo result
-        (Rises (R.device.failures reader.old) (R.device.failures reader.new)) }
-    ensures told { UnlessIo result (R.device.failures reader.new ≡ R.device.failures reader.old) }
+    ensures device { ReadsDevice R.device reader.old result reader.new }
     ensures given { R.device.given reader.new ≤ R.device.given reader.old + 6 }
     ensures reason { IsTrue R.device.is_memory
         → IfErr result (λ e. OwnFault e (HeadReason (after (R.device.memory reader.old)) e)) }
     ensures memory { IsTrue R.device.is_memory → Answers result
         (take 6 (after (R.device.memory reader.old)) ≡ magic)
         (λ _. Unit {0}) }
-    ensures whole { IsTrue R.device.is_read_only
-        → (R.device.memory reader.new).whole ≡ (R.device.memory reader.old).whole }
-    ensures names { R.device.names reader.new ≡ R.device.names reader.old }
 {
     let mut head = [0; 6];
     read_exact(reader, &mut head)?;
@@ -130,18 +125,12 @@ fn read_footer_len<R: Reads + Seeks>(reader: &mut R) -> Result<(u64, u32), Fault
     ensures inside { IfOk result (λ t. t.1 + 10 ≤ t.0) }
     ensures short { IfOk result (λ t. t.1 < 2 ^ 31) }
     ensures only { IfErr result (λ e. OwnFault e (TailFault e)) }
-    ensures monotone { R.device.failures reader.old ≤ R.device.failures reader.new }
-    ensures failed { OnIo result
-        (Rises (R.device.failures reader.old) (R.device.failures reader.new)) }
-    ensures told { UnlessIo result (R.device.failures reader.new ≡ R.device.failures reader.old) }
+    ensures device { ReadsDevice R.device reader.old result reader.new }
     ensures given { R.device.given reader.new ≤ R.device.given reader.old + 10 }
     ensures reason { IsTrue R.device.is_memory
         → IfErr result (λ e. OwnFault e (TailReason (R.device.memory reader.old).whole e)) }
     ensures memory { IsTrue R.device.is_memory
         → GivesTail (R.device.memory reader.old).whole result }
-    ensures whole { IsTrue R.device.is_read_only
-        → (R.device.memory reader.new).whole ≡ (R.device.memory reader.old).whole }
-    ensures names { R.device.names reader.new ≡ R.device.names reader.old }
 {
     let end = reader.seek_end()?;
     if end < 10 {

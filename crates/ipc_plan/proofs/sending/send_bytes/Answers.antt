@@ -1,6 +1,7 @@
 use Rattle.std.proofs.Common.{arith, ◌+◌, ◌≤◌, drop, length, sym, ◌∙◌, refl, [], append-nil, ℕ, List, subst}
 use Rattle.std.proofs.lemmas.Result.{err_from_is_err_and}
 use Rattle.std.proofs.lemmas.List.{length-drop, take_rest}
+use Rattle.ipc_devices.specs.declared.fault.Fault.TheVariants.{Io}
 use Rattle.ipc_plan.proofs.Sends.{before_none, before_more, before_stop, one_write, no_write, split_drop}
 use Rattle.ipc_plan.proofs.sending.send_bytes.Goals as goal
 
@@ -26,7 +27,7 @@ returns-in_err-at g c =
     let e = err_from_is_err_and c.from_residual.result c.from_residual.ensures.1 in
     let rest = take_rest bytes at in
     rw (e.1, e.2) (before_stop {X = Unit {0}} _ _ _ _ _ (drop at bytes) _ [] bytes c.loop-at.invariant.sent (sym (append-nil _ ∙ rest))
-    (no_write _ _ _ _ _ tt w.monotone w.failed w.refused w.names))
+    (no_write g.W.Failures.device _ _ (Io _) _ (_, w.answered) w.monotone w.failed w.refused w.names))
 
 pub loop-at-init : goal.loop-at-init
 loop-at-init g c = record { within = omega arith; sent = before_none _ _ _ _ refl }

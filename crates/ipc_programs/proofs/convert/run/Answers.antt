@@ -40,6 +40,7 @@ returns-in-Ok-clause-exact g c = λ zero.
     record {
       copied = λ k. of_asked _ _ form c.in-Some.ensures (c.in-Ok.ensures.copied k);
       appended = of_asked _ _ form c.in-Some.ensures c.in-Ok.ensures.appended;
+      flushed = of_asked _ _ form c.in-Some.ensures c.in-Ok.ensures.flushed;
       taken = of_asked _ _ form c.in-Some.ensures c.in-Ok.ensures.taken;
       done = c.in-Ok.ensures.done;
       silent = refl;

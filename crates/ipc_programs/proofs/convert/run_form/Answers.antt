@@ -17,10 +17,10 @@ use Rattle.ipc_programs.proofs.Reasons.{copied_or_io}
 use Rattle.ipc_programs.proofs.convert.run_form.Goals as goal
 use Rattle.ipc_programs.proofs.convert.run_form.Goals.{in-Convert-Input-default-default, in-Convert-File-default-default+in_ok-opened-in-Convert-File-default-default, in-Append+in_ok-opened-in-Append+in_ok-append_input-in-Append}
 
-appended : {R F : Type 0} (gives : Gives R) (d : Device F) (form : Form) (path : _) (file : Option F) (device last : F) (a b : R) → form ≡ Append path → file ≡ Some device → d.failures last ≡ d.failures device
+appended : {R F : Type 0} (gives : Gives R) (d : Device F) (form : Form) (path : _) (file : Option F) (device last : F) (a b : R) → form ≡ Append path → file ≡ Some device → d.failures last ≡ d.failures device → IsTrue (d.is_flushed last)
     → (IsTrue d.is_memory → (d.memory device).place ≡ 0 → CopiesStream gives a b (λ schema cs end. AppendsTo (d.memory device).whole (d.memory last).whole schema cs))
     → Appended gives d (wanted_by form) a b file
-appended gives d form path file device last a b e f same h = rw e (rw f (last, same, h))
+appended gives d form path file device last a b e f same done h = rw e (rw f (last, same, done, h))
 
 -- Appending wasn't requested.
 none_appended : {R A : Type 0} (gives : Gives R) (d : Device A) (form : Form) (from : Source) (target : Target) (options : WriteOptions) (a b : R) (file : Option A) (result : Result (Unit {0}) Fault)
@@ -39,7 +39,7 @@ returns-clause-appended g c =
       | in-Append+in_ok-opened-in-Append+in_ok-append_input-in-Append w ↦
           rw (w.result-is, w.input-is)
           (appended g.R.Reads.gives g.A.Failures.device c.args.form _ c.args.append_to w.in_ok-opened-in-Append.field-0 w.in_ok-append_input-in-Append.field-0 _ _
-          w.in-Append.is w.in_ok-opened-in-Append.ensures.there w.in_ok-append_input-in-Append.ensures.done.0 w.in_ok-append_input-in-Append.ensures.appends)
+          w.in-Append.is w.in_ok-opened-in-Append.ensures.there w.in_ok-append_input-in-Append.ensures.done.0 w.in_ok-append_input-in-Append.ensures.flushed w.in_ok-append_input-in-Append.ensures.appends)
     ]
 
 copied_given : {R F A O : Type 0} (gives : Gives R) (source : Device R) (contents : Device F) (kept : Device A) (d : Device O) (form : Form) (from : Source)

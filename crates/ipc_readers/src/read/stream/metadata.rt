@@ -1,6 +1,7 @@
 //! The schema message at the beginning of a stream.
 ghost use Rattle.std.specs.Prelude.{◌≡◌, IfOk};
-ghost use Rattle.ipc_devices.specs.Faults.{OnIo};
+ghost use Rattle.ipc_devices.specs.Device.{IsAnswered};
+ghost use Rattle.ipc_devices.specs.Faults.{IfIo, OnIo};
 ghost use Rattle.lower.specs.TypeViews.{fields_view, schema_view};
 ghost use Rattle.ipc_base.specs.Fitting.{AllFit};
 ghost use Rattle.ipc_base.specs.IdTrees.{all_ids_view, ipc_schema_view};
@@ -80,6 +81,7 @@ pub fn read_stream_metadata<R: Reads>(
     reader: &mut R,
 ) -> Result<StreamMetadata, Fault>
     ensures gives { MetadataGave R.gives reader.old result reader.new }
+    ensures answered { IfIo result (IsAnswered R.device) }
     ensures fits { IfOk result (λ m. AllFit (fields_view m.schema.fields.items)
         (all_ids_view m.ipc_schema.fields.items)) }
 {

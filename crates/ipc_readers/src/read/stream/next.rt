@@ -1,7 +1,8 @@
 //! Reads the next chunk of a stream.
 ghost use Rattle.std.specs.Prelude.{◌≡◌, ◌<◌, ◌+◌, ◌^◌, ◌↔◌, IsTrue, IsSome, IfOk, IfErr, OnOk, OnErr, length, vec_capacity};
 ghost use Rattle.std.specs.Iterator.{endless};
-ghost use Rattle.ipc_devices.specs.Faults.{OnIo, OwnFault};
+ghost use Rattle.ipc_devices.specs.Device.{IsAnswered};
+ghost use Rattle.ipc_devices.specs.Faults.{IfIo, OnIo, OwnFault};
 ghost use Rattle.ipc_devices.specs.declared.fault.Fault.TheVariants.{Memory};
 ghost use Rattle.ipc_base.specs.Fitting.{AllFit};
 ghost use Rattle.ipc_base.specs.IdTrees.{all_ids_view};
@@ -199,6 +200,7 @@ impl Batches {
         ensures only { IfErr result (λ e. OwnFault e (IsStreamFault (request_in self.old) e)) }
         ensures gives { BodyGave R.gives (request_in self.old) (known_in self.old) (header_seen message.entry)
             reader.old result (known_in self.new) reader.new }
+        ensures answered { IfIo result (IsAnswered R.device) }
         ensures shown { R.shows reader.old message.entry.body_length
             → (body.new.items ≡ body.old.items) × (vec_capacity body.new ≡ vec_capacity body.old) }
     {
@@ -306,6 +308,7 @@ impl<R: Reads + Drop> StreamReader<R> {
         ensures kept { OnErr result (AreAt (known_of self.old) (known_of self.new)) }
         ensures gives { ItemGave R.gives (request_of self.old) (known_of self.old) (begun_of self.old)
             (device_of self.old) result (known_of self.new) (begun_of self.new) (device_of self.new) }
+        ensures answered { IfIo result (IsAnswered R.device) }
     {
         match read_frame(&mut self.reader, &mut self.begun, &mut self.message)? {
             Frame::Waiting => Ok(Found::Waiting),
@@ -335,6 +338,7 @@ impl<R: Reads + Drop> StreamReader<R> {
             (values_of self.old) (values_of self.new) }
         ensures gives { NextGave R.gives (request_of self.old) (known_of self.old) (begun_of self.old)
             (device_of self.old) result (known_of self.new) (begun_of self.new) (device_of self.new) }
+        ensures answered { IfIo result (IsAnswered R.device) }
     {
         loop {
             match self.read_item()? {

@@ -1,7 +1,7 @@
 use Rattle.std.proofs.Common.{ℕ, List, OnOk, ap, refl, ◌∙◌, subst}
 use Rattle.std.proofs.lemmas.Result.{err_from_is_err_and}
 use Rattle.ipc_file_write.proofs.AppendEnds.{device_fails}
-use Rattle.ipc_file_write.proofs.Appends.{goes_on_any, goes_on_with, same_failures}
+use Rattle.ipc_file_write.proofs.Appends.{goes_on_any, goes_on_with, same_failures, same_names}
 use Rattle.ipc_file_write.specs.Appends.{GoesOn}
 use Rattle.ipc_file_write.specs.FileWriters.{seen}
 use Rattle.ipc_model.specs.Files.{FileMetadata, metadata_of}
@@ -19,7 +19,8 @@ returns-in_err-prepared g c =
         always = λ k. session_refuses_no_old g.W.Failures.device.is_memory (g.W.Failures.device.memory c.args.device).whole c.in_err-prepared.field-0.0 k c.in_err-prepared.ensures.only;
         only = c.in_err-prepared.ensures.only;
       };
-      device = device_fails g.W.Failures.device.failures c.args.device c.prepare_session.new.device c.in_err-prepared.field-0.0 c.in_err-prepared.ensures.failed;
+      device = device_fails g.W.Failures.device.failures c.args.device c.prepare_session.new.device c.in_err-prepared.field-0.0 c.in_err-prepared.ensures.device.failed;
+      answered = c.in_err-prepared.ensures.device.answered;
       calls = tt;
       state = λ k. tt;
     })
@@ -31,6 +32,7 @@ returns-in_err-session g c =
       exact = λ k. tt;
       causes = record { always = λ k m is. tt; only = tt };
       device = tt;
+      answered = tt;
       calls = tt;
       state = λ k. tt;
     })
@@ -52,6 +54,7 @@ returns g c =
           (goes_on_any g.W.Failures.device there.metadata there.read writer went) (goes_on_with g.W.Failures.device there.metadata there.read writer went));
       causes = tt;
       device = tt;
+      answered = tt;
       calls = record {
         read = there.read;
         same = there.same;
@@ -62,8 +65,10 @@ returns g c =
           goes_on = went;
           calls = ends;
           done = done_from g.W.Failures.device.failures session.end left writer.device there.read ends.done (same_failures g.W.Failures.device.failures _ _ c.in_ok-prepared.prepared c.resume-writer.ensures.writer ∙ there.opens.done);
+          names = ends.names ∙ same_names g.W.Failures.device.names _ _ c.in_ok-prepared.prepared c.resume-writer.ensures.writer ∙ there.opens.names;
         };
-        done = done_from g.W.Failures.device.failures session.end left writer.device c.args.device ends.done (same_failures g.W.Failures.device.failures _ _ c.in_ok-prepared.prepared c.resume-writer.ensures.writer ∙ c.in_ok-prepared.ensures.told);
+        done = done_from g.W.Failures.device.failures session.end left writer.device c.args.device ends.done (same_failures g.W.Failures.device.failures _ _ c.in_ok-prepared.prepared c.resume-writer.ensures.writer ∙ c.in_ok-prepared.ensures.device.told);
+        names = ends.names ∙ same_names g.W.Failures.device.names _ _ c.in_ok-prepared.prepared c.resume-writer.ensures.writer ∙ c.in_ok-prepared.ensures.device.names;
       };
       state = λ k.
           as_read (λ (m : FileMetadata) (xs : List ℕ). KeepsOld m xs (g.W.Failures.device.memory left).whole) old old (g.W.Failures.device.memory there.read).whole there.metadata refl (there.same k) (there.metadata_is k)

@@ -2,7 +2,7 @@ use Rattle.std.proofs.Common.{◌∙◌}
 use Rattle.std.proofs.lemmas.Result.{err_from_is_err_and}
 use Rattle.ipc_files.specs.Footers.{file_seen}
 use Rattle.ipc_file_write.proofs.AppendEnds.{device_fails}
-use Rattle.ipc_file_write.proofs.Appends.{goes_on_any, goes_on_with, same_failures}
+use Rattle.ipc_file_write.proofs.Appends.{goes_on_any, goes_on_with, same_failures, same_names}
 use Rattle.ipc_file_write.specs.Appends.{GoesOn}
 use Rattle.ipc_file_write.specs.FileWriters.{seen}
 use Rattle.ipc_sessions.proofs.Ends.{done_from}
@@ -18,7 +18,8 @@ returns-in_err-prepared g c =
         always = λ k is. refuses_no_old (file_seen c.args.metadata) _ g.W.Failures.device.is_memory c.in_err-prepared.field-0.0 k is c.in_err-prepared.ensures.only;
         only = c.in_err-prepared.ensures.only;
       };
-      device = device_fails g.W.Failures.device.failures c.args.device c.prepare.new.device c.in_err-prepared.field-0.0 c.in_err-prepared.ensures.failed;
+      device = device_fails g.W.Failures.device.failures c.args.device c.prepare.new.device c.in_err-prepared.field-0.0 c.in_err-prepared.ensures.device.failed;
+      answered = c.in_err-prepared.ensures.device.answered;
       calls = tt;
       state = λ k is. tt;
     })
@@ -30,6 +31,7 @@ returns-in_err-session g c =
       exact = λ k is. tt;
       causes = record { always = λ k is. tt; only = tt };
       device = tt;
+      answered = tt;
       calls = tt;
       state = λ k is. tt;
     })
@@ -47,11 +49,13 @@ returns g c =
           (goes_on_any g.W.Failures.device m c.args.device writer went) (goes_on_with g.W.Failures.device m c.args.device writer went);
       causes = tt;
       device = tt;
+      answered = tt;
       calls = record {
         opened = writer;
         goes_on = went;
         calls = ends;
-        done = done_from g.W.Failures.device.failures session.end session.device writer.device c.args.device ends.done (same_failures g.W.Failures.device.failures _ _ c.in_ok-prepared.prepared c.resume-writer.ensures.writer ∙ c.in_ok-prepared.ensures.told);
+        done = done_from g.W.Failures.device.failures session.end session.device writer.device c.args.device ends.done (same_failures g.W.Failures.device.failures _ _ c.in_ok-prepared.prepared c.resume-writer.ensures.writer ∙ c.in_ok-prepared.ensures.device.told);
+        names = ends.names ∙ same_names g.W.Failures.device.names _ _ c.in_ok-prepared.prepared c.resume-writer.ensures.writer ∙ c.in_ok-prepared.ensures.device.names;
       };
       state = λ k is. keeps_old g.W.Failures.device m c.args.device writer session.device _ went k is session.end ends.leaves;
     }

@@ -4,7 +4,7 @@ use Rattle.std.proofs.lemmas.Result.{err_from_is_err_and}
 use Rattle.ipc_devices.proofs.Claims.{claims_through}
 use Rattle.ipc_model.specs.Batches.{Chunk}
 use Rattle.ipc_sessions.specs.Sessions.{AddsInTurn}
-use Rattle.ipc_sessions.proofs.Going.{at_index, in_turn_more, in_turn_none, sessions_more}
+use Rattle.ipc_sessions.proofs.Going.{at_index, in_turn_more, in_turn_none, sessions_more, sessions_named}
 use Rattle.ipc_sessions.proofs.Taken.{all_taken_more}
 use Rattle.ipc_sessions.proofs.sessions.run_sessions.Goals as goal
 
@@ -35,7 +35,9 @@ returns g c = record {
   exact = rw (take_all c.loop-chunks.chunks-index c.args.sessions.now c.loop-chunks-test.false) at c.loop-chunks.invariant.2;
   causes = tt;
   device = tt;
+  answered = tt;
   calls = rw (take_all c.loop-chunks.chunks-index c.args.sessions.now c.loop-chunks-test.false) at c.loop-chunks.invariant.0;
+  names = sessions_named g.W.Failures.device c.args.device c.loop-chunks.device (take c.loop-chunks.chunks-index c.args.sessions.now) c.loop-chunks.answers.items c.loop-chunks.invariant.0;
 }
 
 pub returns-in_err-ended : goal.returns-in_err-ended
@@ -70,5 +72,7 @@ returns-in_err-ended g c =
         made = c.loop-chunks.invariant.0;
         why = (rw c.deref.ensures.value at c.in_err-ended.ensures.failed) io;
       };
+      answered = c.in_err-ended.ensures.answered;
       calls = tt;
+      names = tt;
     })

@@ -35,3 +35,14 @@ returns-in_err-outcome-clause-failed g c =
       left = c.in_ok-session.session.device;
       session = rw c.in_err-outcome.was at c.in_ok-session.ensures.calls;
     }))
+
+pub returns-in_err-session-clause-answered : goal.returns-in_err-session-clause-answered
+returns-in_err-session-clause-answered g c =
+    let p = err_from_is_err_and c.from_residual.result c.from_residual.ensures.1 in
+    rw (p.1, p.2) c.in_err-session.ensures.answered
+
+pub returns-in_err-outcome-clause-answered : goal.returns-in_err-outcome-clause-answered
+returns-in_err-outcome-clause-answered g c =
+    let p = err_from_is_err_and c.from_residual-in_err-outcome.result c.from_residual-in_err-outcome.ensures.1 in
+    let on = rw c.in_err-outcome.was at c.in_ok-session.ensures.calls in
+    rw (p.1, p.2) on.session.calls.ends.device.step.answered

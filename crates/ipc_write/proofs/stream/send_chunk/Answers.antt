@@ -48,8 +48,8 @@ returns-clause-sends g c =
 pub returns-clause-takes : goal.returns-clause-takes
 returns-clause-takes g c =
     rw c.note_failure.ensures.same
-    (handing_sent (map listed c.args.dictionaries.now) (map layout_of c.args.columns.now) c.write_messages-sent.result _ c.write_messages-sent.ensures.only c.in_ok-messages.ensures.takes)
+    (handing_sent g.W.Failures.device (map listed c.args.dictionaries.now) (map layout_of c.args.columns.now) c.write_messages-sent.result _ c.write_messages-sent.ensures.only c.in_ok-messages.ensures.takes)
 
 pub returns-clause-state : goal.returns-clause-state
 returns-clause-state g c =
-    rw c.note_failure.ensures.same (leaves_sent c.args.state.now c.note_failure.new.state c.write_messages-sent.result c.write_messages-sent.ensures.only c.note_failure.ensures.stays c.note_failure.ensures.failed)
+    rw c.note_failure.ensures.same (leaves_sent g.W.Failures.device c.args.state.now c.note_failure.new.state c.write_messages-sent.result c.write_messages-sent.ensures.only c.note_failure.ensures.stays c.note_failure.ensures.failed)

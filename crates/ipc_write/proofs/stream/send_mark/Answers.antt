@@ -1,13 +1,23 @@
 use Rattle.std.proofs.Common.{rules, ◌≡◌, Err, ℕ, pos}
+use Rattle.std.proofs.lemmas.Result.{err_from_is_err_and}
 use Rattle.ipc_write.specs.Framing.{prefix_bytes}
-use Rattle.ipc_write.proofs.Deliveries.{flushed, stopped}
+use Rattle.ipc_write.proofs.Deliveries.{flushed, stopped, unflushed}
 use Rattle.ipc_write.proofs.stream.send_mark.Goals as goal
 
-pub returns-in_err-write_continuation : goal.returns-in_err-write_continuation
-returns-in_err-write_continuation g c =
+pub returns-in_err-write_continuation-clause-sends : goal.returns-in_err-write_continuation-clause-sends
+returns-in_err-write_continuation-clause-sends g c =
     let e : c.from_residual.result ≡ Err c.in_err-write_continuation.field-0.0 = search rules in
-    record { sends = rw e (stopped {X = ℕ} {Y = Unit {0}} _ _ _ _ (prefix_bytes (pos 0)) c.in_err-write_continuation.ensures.sends) }
+    rw e (stopped {X = ℕ} {Y = Unit {0}} _ _ _ _ (prefix_bytes (pos 0)) c.in_err-write_continuation.ensures.sends)
 
-pub returns : goal.returns
-returns g c =
-    record { sends = flushed {X = ℕ} _ _ _ _ _ (prefix_bytes (pos 0)) c.in_ok-write_continuation.ensures.sends c.in_ok-flush.ensures.done c.in_ok-flush.ensures.memory c.in_ok-flush.ensures.names }
+pub returns-in_err-flush-clause-sends : goal.returns-in_err-flush-clause-sends
+returns-in_err-flush-clause-sends g c =
+    let w = c.in_err-flush.ensures in
+    let e = err_from_is_err_and c.from_residual-in_err-flush.result c.from_residual-in_err-flush.ensures.1 in
+    rw (e.1, e.2) (unflushed {X = ℕ} {Y = Unit {0}} g.W.Failures.device _ _ _ _ _ (prefix_bytes (pos 0)) c.in_ok-write_continuation.ensures.sends w.monotone w.failed w.answered w.memory w.names)
+
+pub returns-clause-sends : goal.returns-clause-sends
+returns-clause-sends g c =
+    flushed {X = ℕ} _ _ _ _ _ (prefix_bytes (pos 0)) c.in_ok-write_continuation.ensures.sends c.in_ok-flush.ensures.done c.in_ok-flush.ensures.memory c.in_ok-flush.ensures.names
+
+pub returns-clause-flushed : goal.returns-clause-flushed
+returns-clause-flushed g c = c.in_ok-flush.ensures.flushed

@@ -27,3 +27,6 @@ returns-clause-kept g c =
 
 pub returns-clause-refused : goal.returns-clause-refused
 returns-clause-refused g c = file_refuses (seen c.args.self.now) _ c.write.result c.write.ensures.writes.exact c.write.ensures.writes.causes
+
+pub returns-clause-answered : goal.returns-clause-answered
+returns-clause-answered g c = c.write.ensures.writes.device.step.answered

@@ -4,7 +4,7 @@ use Rattle.ipc_convert.proofs.Taken.{stream_kept, stream_refuses, stream_took}
 use Rattle.ipc_convert.proofs.sinks.StreamWriterSink.take_chunk.Goals as goal
 
 pub returns-clause-taken : goal.returns-clause-taken
-returns-clause-taken g c = stream_took g.W.Failures.device (seen c.args.self.now) (seen c.write.new.self) _ _ c.write.result c.write.ensures.content c.write.ensures.state.ok
+returns-clause-taken g c = stream_took g.W.Failures.device (seen c.args.self.now) (seen c.write.new.self) _ _ c.write.result c.write.ensures.content c.write.ensures.state.ok c.write.ensures.device.step.names
 
 pub returns-clause-done : goal.returns-clause-done
 returns-clause-done g c = c.write.ensures.device.step.done
@@ -19,3 +19,6 @@ returns-clause-kept g c =
 
 pub returns-clause-refused : goal.returns-clause-refused
 returns-clause-refused g c = stream_refuses (seen c.args.self.now) _ c.write.result c.write.ensures.exact c.write.ensures.causes
+
+pub returns-clause-answered : goal.returns-clause-answered
+returns-clause-answered g c = c.write.ensures.device.step.answered

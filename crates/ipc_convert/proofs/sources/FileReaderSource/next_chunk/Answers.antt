@@ -5,7 +5,8 @@ use Rattle.ipc_convert.proofs.sources.FileReaderSource.next_chunk.Goals as goal
 pub returns-in-None-clause-came : goal.returns-in-None-clause-came
 returns-in-None-clause-came g c =
     let e : c.next.result ≡ None = search rules in
-    (refl, blocks_over g.F.Failures.device g.met.F.Seeks.known_still c.args.self.now c.next.new.self (rw e at c.next.ensures.steps))
+    let step = rw e at c.next.ensures.steps in
+    (refl, blocks_over g.F.Failures.device g.met.F.Seeks.known_still c.args.self.now c.next.new.self step, step.device.names)
 
 pub returns-in-None-clause-done : goal.returns-in-None-clause-done
 returns-in-None-clause-done g c =
@@ -31,3 +32,8 @@ pub returns-in-Some-Err-clause-failed : goal.returns-in-Some-Err-clause-failed
 returns-in-Some-Err-clause-failed g c =
     let step = rw c.in-Some-Err.field-0-is at c.in-Some-Err.ensures.steps in
     step.device.failed
+
+pub returns-in-Some-Err-clause-answered : goal.returns-in-Some-Err-clause-answered
+returns-in-Some-Err-clause-answered g c =
+    let step = rw c.in-Some-Err.field-0-is at c.in-Some-Err.ensures.steps in
+    step.device.answered

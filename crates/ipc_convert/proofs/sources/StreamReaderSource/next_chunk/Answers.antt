@@ -42,3 +42,8 @@ pub returns-in-Some-Err-clause-failed : goal.returns-in-Some-Err-clause-failed
 returns-in-Some-Err-clause-failed g c =
     let step = rw c.in-Some-Err.field-0-is at c.in-Some-Err.ensures.steps in
     stream_next_fails g.R.Reads.gives g.R.Failures.device g.met.R.Reads.laws.fails c.args.self.now _ c.next.new.self step
+
+pub returns-in-Some-Err-clause-answered : goal.returns-in-Some-Err-clause-answered
+returns-in-Some-Err-clause-answered g c =
+    let step = rw c.in-Some-Err.field-0-is at c.in-Some-Err.ensures.steps in
+    step.answered

@@ -1,5 +1,6 @@
 use Rattle.std.proofs.Common.{rules, ◌≡◌, Err, refl}
 use Rattle.std.proofs.lemmas.Result.{err_from_is_err_and}
+use Rattle.ipc_devices.proofs.Acts.{is_io}
 use Rattle.ipc_write.specs.Writers.{fault_unless_started}
 use Rattle.ipc_file_write.specs.FileWriters.{RefusesFinish, ending_bytes, seen}
 use Rattle.ipc_file_write.proofs.FileStates.{finish_broken, finish_not_io, finished, reaches_end, refused_ending}
@@ -27,10 +28,11 @@ returns-in_err-send_last-clause-finishes g c =
     let fault = c.in_err-send_last.field-0.0 in
     let may = c.in_ok-ending.ensures.ok in
     let sent = c.in_err-send_last.ensures in
+    let io = is_io g.W.Failures.device fault sent.sends.only in
     let e : c.from_residual-in_err-send_last.result ≡ Err fault = search rules in
     rw e (record {
-      exact = finish_failed a fault sent.sends.only;
-      causes = io_or_fails (RefusesFinish a) fault sent.sends.only;
+      exact = finish_failed a fault io;
+      causes = io_or_fails (RefusesFinish a) fault io;
       device =
           ending_broken g.W.Failures.device a _ (ending_bytes c.in_ok-ending.ending) (record { order = refl; fields = refl; metadata = refl; chosen = refl; pairs = refl; size = refl })
           fault may.ends sent.failed sent.sends;
@@ -50,7 +52,7 @@ returns-clause-finishes g c =
       causes = tt;
       device =
           ending_sent g.W.Failures.device a _ (ending_bytes c.in_ok-ending.ending) (record { order = refl; fields = refl; metadata = refl; chosen = refl; pairs = refl; size = refl })
-          may.ends c.in_ok-send_last.ensures.sends;
+          may.ends c.in_ok-send_last.ensures.sends c.in_ok-send_last.ensures.flushed;
       bounds = reaches_end g.W.Failures.device a _ c.in_ok-ending.ending may c.in_ok-send_last.ensures.sends;
       state = record {
         first = first_passed a _ _ may.was;

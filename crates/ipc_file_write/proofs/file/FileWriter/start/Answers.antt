@@ -1,5 +1,6 @@
 use Rattle.std.proofs.Common.{rules, ◌≡◌, ℕ, List, Err, length, refl, subst, sym}
 use Rattle.std.proofs.lemmas.Result.{err_from_is_err_and}
+use Rattle.ipc_devices.proofs.Acts.{is_io}
 use Rattle.ipc_write.specs.Writers.{fault_unless_new}
 use Rattle.ipc_file_write.specs.FileWriters.{IsBeginning, RefusesStart, seen}
 use Rattle.ipc_file_write.proofs.FileStates.{refused_beginning, start_broken, start_not_io, started}
@@ -26,12 +27,13 @@ returns-in_err-send-clause-starts g c =
     let fault = c.in_err-send.field-0.0 in
     let may = c.in_ok-ipc_fields.ensures.ok in
     let sent = c.in_err-send.ensures in
+    let io = is_io g.W.Failures.device fault sent.sends.only in
     let bytes_are : c.deref.result.now ≡ c.in_ok-ipc_fields.field-0.bytes.items = search rules in
     let begins : IsBeginning a c.deref.result.now = subst (λ (xs : List ℕ). IsBeginning a xs) (sym bytes_are) may.begins in
     let e : c.from_residual-in_err-send.result ≡ Err fault = search rules in
     rw e (record {
-      exact = start_failed a fault sent.sends.only;
-      causes = io_or_fails (RefusesStart a) fault sent.sends.only;
+      exact = start_failed a fault io;
+      causes = io_or_fails (RefusesStart a) fault io;
       device =
           beginning_broken g.W.Failures.device a _ c.deref.result.now (record { order = refl; fields = refl; metadata = refl; chosen = refl; pairs = refl; size = refl })
           fault begins sent.failed sent.sends;

@@ -4,7 +4,7 @@ use Rattle.ipc_files.specs.Footers.{file_seen}
 use Rattle.ipc_file_write.specs.Appends.{GoesOn}
 use Rattle.ipc_file_write.specs.FileWriters.{seen}
 use Rattle.ipc_file_write.proofs.AppendEnds.{device_fails}
-use Rattle.ipc_file_write.proofs.Appends.{goes_on_any, goes_on_with, never_refused, same_failures}
+use Rattle.ipc_file_write.proofs.Appends.{goes_on_any, goes_on_with, never_refused, same_failures, same_names}
 use Rattle.ipc_file_write.proofs.file.FileWriter.try_from_file.Goals as goal
 
 pub returns-in_err-prepared : goal.returns-in_err-prepared
@@ -16,7 +16,8 @@ returns-in_err-prepared g c =
         only = c.in_err-prepared.ensures.only;
         always = never_refused g.W.Failures.device (file_seen c.args.metadata) c.args.writer fault c.in_err-prepared.ensures.only;
       };
-      device = device_fails g.W.Failures.device.failures c.args.writer c.prepare.new.device fault c.in_err-prepared.ensures.failed;
+      device = device_fails g.W.Failures.device.failures c.args.writer c.prepare.new.device fault c.in_err-prepared.ensures.device.failed;
+      answered = c.in_err-prepared.ensures.device.answered;
       state = tt;
       content = tt;
       scratches = tt;
@@ -30,9 +31,11 @@ returns g c =
     record {
       causes = tt;
       device = tt;
+      answered = tt;
       state = record {
         goes_on = went;
-        done = same_failures g.W.Failures.device.failures _ _ c.in_ok-prepared.prepared c.resume.ensures.writer ∙ c.in_ok-prepared.ensures.told;
+        done = same_failures g.W.Failures.device.failures _ _ c.in_ok-prepared.prepared c.resume.ensures.writer ∙ c.in_ok-prepared.ensures.device.told;
+        names = same_names g.W.Failures.device.names _ _ c.in_ok-prepared.prepared c.resume.ensures.writer ∙ c.in_ok-prepared.ensures.device.names;
       };
       content = record {
         means = goes_on_with g.W.Failures.device m c.args.writer w went;

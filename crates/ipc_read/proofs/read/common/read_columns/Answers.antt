@@ -270,6 +270,7 @@ returns-in_err-push-clause-step g c =
       failed = search rules;
       told = search rules;
       bounded = omega (arith, e1, e2, c.loop-index.invariant.given, c.in_ok-column.ensures.step.bounded);
+      answered = search rules;
     }
 
 pub loop-index-preserved : goal.loop-index-preserved

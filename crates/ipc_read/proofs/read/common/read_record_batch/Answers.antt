@@ -4,6 +4,7 @@ use Rattle.lower.specs.Counts.{fields_nodes, fields_buffers}
 use Rattle.lower.specs.TypeViews.{fields_view}
 use Rattle.ipc_base.specs.IdTrees.{all_ids_view}
 use Rattle.ipc_base.specs.declared.ipc.IpcField.{IpcField}
+use Rattle.ipc_devices.specs.Device.{IsAnswered}
 use Rattle.ipc_devices.specs.Faults.{OwnFault}
 use Rattle.ipc_model.specs.Batches.{Schema, Lists, kinds, extra_of, lists_of, entries_of, chosen}
 use Rattle.ipc_model.specs.Batches as model
@@ -28,7 +29,7 @@ use Rattle.ipc_read_flat.specs.Refusals.{TellsEntries}
 use Rattle.ipc_read.proofs.Reasons.{unlisted_tells, lengths_say, counts_say, entries_tell, unequal_tells}
 use Rattle.ipc_read.proofs.Refusals.{counts_tell, lengths_tell, columns_tell, entries_in_batch, list_in_batch, some_in_batch, unequal_in_batch, unequal_tell}
 use Rattle.ipc_read.specs.Refusals.{TellsCounts, IsFaultOfSome}
-use Rattle.ipc_devices.proofs.Acts.{each_err, each_ok, idle_device, other_fault, always_told}
+use Rattle.ipc_devices.proofs.Acts.{each_err, each_ok, idle_device, none_answered, other_fault, always_told}
 use Rattle.ipc_devices.specs.declared.fault.Fault.TheVariants.{Argument}
 use Rattle.ipc_devices.specs.declared.fault.ArgFault.TheVariants.{UnequalRows}
 use Rattle.ipc_read.specs.Api.{BatchRequest, RecordBatchCause, batch_request}
@@ -190,6 +191,7 @@ returns-in_err-columns-clause-batch g c =
         told = c.in_err-columns.ensures.step.told;
         whole = λ k. c.in_err-columns.ensures.step.stands k ∙ ap (λ r. (g.R.Failures.device.memory r).whole) c.of.ensures;
         names = c.in_err-columns.ensures.step.names;
+        answered = c.in_err-columns.ensures.step.answered;
       };
       bounds = record {
         many = tt;
@@ -264,6 +266,7 @@ returns-clause-batch g c =
         told = always_told c.try_new.result _ c.in_ok-columns.ensures.step.told;
         whole = λ k. c.in_ok-columns.ensures.step.stands k ∙ ap (λ r. (g.R.Failures.device.memory r).whole) c.of.ensures;
         names = c.in_ok-columns.ensures.step.names;
+        answered = none_answered c.try_new.result (IsAnswered g.R.Failures.device) (other_fault c.try_new.result (Argument UnequalRows) ⊥ tt c.try_new.ensures.only);
       };
       bounds = record {
         many = each_ok {P = λ xs. xs ≡ ys} {Q = λ xs. length xs ≡ length js} c.try_new.result c.try_new.ensures.value (λ xs are. ap length are ∙ c.in_ok-columns.ensures.many);

@@ -1,4 +1,4 @@
-use Rattle.std.proofs.Common.{rules, ◌≡◌, ℤ, List, [], ◌∷◌, None, Some, IsSome, Err, to_z, of_z, ap, sym, subst, ◌∙◌, arith, ℕ, ◌+◌, ◌≤◌, refl}
+use Rattle.std.proofs.Common.{rules, ◌≡◌, ℤ, List, [], ◌∷◌, None, Some, IsSome, Ok, Err, to_z, of_z, ap, sym, subst, ◌∙◌, arith, ℕ, ◌+◌, ◌≤◌, refl}
 use Rattle.std.specs.HashMap.{Updates}
 use Rattle.std.specs.Int.{w64}
 use Rattle.std.specs.Ordering.{int_eq}
@@ -24,7 +24,7 @@ use Rattle.ipc_read.proofs.DictionaryMeanings.{head_there, no_place, values_ther
 use Rattle.ipc_read.proofs.HeldLists.{values_held}
 use Rattle.ipc_read.proofs.KnownDictionaries.{known_put, puts_cases, puts_values}
 use Rattle.ipc_read.proofs.ValueReasons.{headless_tells, unplaced_say, values_say, memory_of_values}
-use Rattle.ipc_devices.proofs.Acts.{idle_device}
+use Rattle.ipc_devices.proofs.Acts.{device_err, device_then, idle_device}
 use Rattle.ipc_model.specs.TypeKinds.{kind_of}
 use Rattle.ipc_read.specs.Sizes.{chosen_listed}
 use Rattle.ipc_read.proofs.read.dictionaries.read_dictionary.Goals as goal
@@ -119,13 +119,7 @@ returns-in_err-values-clause-dictionary g c =
         lists = values_told schema c.args.batch id v headed p extra c.args.file_size fault placed c.in_err-values.ensures.lists;
         entries = values_say g.R.Failures.device.is_memory schema extra ds body c.args.batch fault id v headed c.in_err-values.ensures.tells;
       };
-      device = record {
-        monotone = c.in_err-values.ensures.monotone;
-        failed = c.in_err-values.ensures.failed;
-        told = c.in_err-values.ensures.told;
-        whole = c.in_err-values.ensures.whole;
-        names = c.in_err-values.ensures.names;
-      };
+      device = device_err g.R.Failures.device c.args.reader.now fault c.read_values.new.reader c.in_err-values.ensures.device;
       bounds = record { given = given; held = tt };
       state = record { put = tt; cases = tt; kept = refl };
     })
@@ -163,13 +157,7 @@ returns-in_err-values-2-clause-dictionary g c =
         lists = memory_tells schema extra c.args.batch c.args.file_size;
         entries = memory_of_values g.R.Failures.device.is_memory schema extra ds body c.args.batch;
       };
-      device = record {
-        monotone = c.in_ok-values.ensures.monotone;
-        failed = tt;
-        told = c.in_ok-values.ensures.told;
-        whole = c.in_ok-values.ensures.whole;
-        names = c.in_ok-values.ensures.names;
-      };
+      device = device_then g.R.Failures.device c.args.reader.now c.read_values.new.reader c.in_ok-values.values (Err Memory) c.in_ok-values.ensures.device tt;
       bounds = record { given = given; held = tt };
       state = record { put = tt; cases = tt; kept = refl };
     })
@@ -207,13 +195,7 @@ returns-in_err-insert-clause-dictionary g c =
         lists = memory_tells schema extra c.args.batch c.args.file_size;
         entries = memory_of_values g.R.Failures.device.is_memory schema extra ds body c.args.batch;
       };
-      device = record {
-        monotone = c.in_ok-values.ensures.monotone;
-        failed = tt;
-        told = c.in_ok-values.ensures.told;
-        whole = c.in_ok-values.ensures.whole;
-        names = c.in_ok-values.ensures.names;
-      };
+      device = device_then g.R.Failures.device c.args.reader.now c.read_values.new.reader c.in_ok-values.values (Err Memory) c.in_ok-values.ensures.device tt;
       bounds = record { given = given; held = tt };
       state = record { put = tt; cases = tt; kept = c.in_err-insert.ensures.err };
     })
@@ -253,13 +235,7 @@ returns-clause-dictionary g c =
           (subst (λ (y : AnyArray). KnowAlike ((id, dictionary_of (layout_of y)) ∷ ds) (known_dictionaries c.insert.new.self)) same_value
           (known_put c.args.dictionaries.now c.insert.new.self id shared put));
       causes = tt;
-      device = record {
-        monotone = c.in_ok-values.ensures.monotone;
-        failed = tt;
-        told = c.in_ok-values.ensures.told;
-        whole = c.in_ok-values.ensures.whole;
-        names = c.in_ok-values.ensures.names;
-      };
+      device = device_then g.R.Failures.device c.args.reader.now c.read_values.new.reader c.in_ok-values.values (Ok (tt {0})) c.in_ok-values.ensures.device tt;
       bounds = record {
         given = given;
         held = values_held c.args.dictionaries.now c.insert.new.self id shared put c.args.file_size schema extra c.args.batch v p headed placed

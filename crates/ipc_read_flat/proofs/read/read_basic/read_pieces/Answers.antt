@@ -1,6 +1,8 @@
-use Rattle.std.proofs.Common.{arith, rules, ◌≡◌, ◌+◌, ◌*◌, ◌/◌, ◌<◌, length, vec_len, ap, ◌∙◌}
+use Rattle.std.proofs.Common.{arith, rules, ◌≡◌, ◌+◌, ◌*◌, ◌/◌, ◌<◌, length, vec_len, Err, ap, ◌∙◌}
 use Rattle.std.proofs.Math.Nat.{mul-add, mul-div_cancel_left}
 use Rattle.std.proofs.lemmas.Grind.{common_steps}
+use Rattle.ipc_devices.proofs.Acts.{device_failed, device_sought}
+use Rattle.ipc_devices.specs.declared.fault.Fault.TheVariants.{Io}
 use Rattle.ipc_read_flat.proofs.Pieces.{read_more}
 use Rattle.ipc_read_flat.proofs.read.read_basic.read_pieces.Goals as goal
 
@@ -29,3 +31,12 @@ pieces-preserved g c =
           read_more (g.T.NativeType.value c.args.order) w n _ _ _ piece _ _ some (c.pieces.invariant.same k) long
           ((c.in_ok-fill.ensures.memory k).full full) c.in_ok-append.ensures.items items;
     }
+
+pub returns-in_err-fill-clause-device : goal.returns-in_err-fill-clause-device
+returns-in_err-fill-clause-device g c =
+    let d = g.R.Failures.device in
+    let so = c.pieces.invariant in
+    let w = c.in_err-fill.ensures in
+    let e : c.from_residual.result ≡ Err (Io c.in_err-fill.field-0.0) = search rules in
+    rw e (device_sought d c.args.reader.now c.pieces.reader (Err (Io c.in_err-fill.field-0.0)) c.fill.new.reader so.monotone so.done so.whole so.names
+    (device_failed d c.pieces.reader c.fill.new.reader c.in_err-fill.field-0.0 w.monotone w.failed w.whole w.names w.answered))

@@ -36,3 +36,13 @@ returns-clause-gives g c = both_then g.R.Reads.gives g.met.R.Reads.laws.in_order
     (begun_bytes c.args.begun.now) (begun_bytes c.word.new.self) (begun_bytes c.word-2.new.self) c.read_sized-2.new.metadata.items c.read_sized-2.result
     c.args.reader.now c.word.new.reader c.word-2.new.reader c.read_sized-2.new.reader
     (rw c.in-Some.is at c.in_ok-first.ensures.gives) (rw c.in-Some-2.is at c.in_ok-size.ensures.gives) c.read_sized-2.ensures.gives
+
+pub returns-in_err-first-clause-answered : goal.returns-in_err-first-clause-answered
+returns-in_err-first-clause-answered g c =
+    let e : c.from_residual.result ≡ Err (Io c.in_err-first.field-0.0) = search rules in
+    rw e c.in_err-first.ensures.answered
+
+pub returns-in_err-size-clause-answered : goal.returns-in_err-size-clause-answered
+returns-in_err-size-clause-answered g c =
+    let e : c.from_residual-in_err-size.result ≡ Err (Io c.in_err-size.field-0.0) = search rules in
+    rw e c.in_err-size.ensures.answered

@@ -1,4 +1,5 @@
 use Rattle.std.proofs.Common.{rules, arith, ◌≡◌, ◌<◌, ◌≤◌, ◌^◌, [], refl, Err}
+use Rattle.ipc_devices.proofs.Acts.{answered_in}
 use Rattle.ipc_readers.proofs.Sized.{sized_negative, fault_negative, sized_mark, sized_whole, due_is, ended_inside}
 use Rattle.ipc_readers.proofs.read.frame.read_sized.Goals as goal
 
@@ -46,3 +47,9 @@ returns-clause-gives g c =
       within = omega (arith, read.0, due_is n small);
       holds = λ ys _. rw (sized_whole n m ys read.0 some small) (refl, refl, refl);
     }
+
+pub returns-in_err-read_into-clause-answered : goal.returns-in_err-read_into-clause-answered
+returns-in_err-read_into-clause-answered g c =
+    let fault = c.in_err-read_into.field-0.0 in
+    let e : c.from_residual.result ≡ Err fault = search rules in
+    rw e (answered_in {X = Unit {0}} g.R.Failures.device c.read_into.new.reader (Err fault) c.in_err-read_into.ensures.answered)

@@ -14,7 +14,7 @@ use Rattle.ipc_files.proofs.BlockFaults.{blames-record, ill-made, in-batch, no-m
 use Rattle.ipc_files.proofs.BlockRecords.{refused-record-place, refused-record-message, refused-record-header, refused-record-kind, read-record, has-place, message-read, on-ok}
 use Rattle.ipc_files.proofs.TakenBytes.{block_given, misread, record_needs, unasked, unread}
 use Rattle.ipc_read.specs.Sizes.{chosen_listed}
-use Rattle.ipc_devices.proofs.Acts.{both_errs, device_after, device_refused, each_err, each_ok, idle_device, when_err}
+use Rattle.ipc_devices.proofs.Acts.{both_errs, device_after, device_err, device_then, each_err, each_ok, idle_device, when_err}
 use Rattle.ipc_devices.specs.Faults.{OnIo, OwnFault}
 use Rattle.ipc_devices.specs.declared.fault.Fault.{Fault}
 use Rattle.ipc_devices.specs.declared.fault.Fault.TheVariants.{OutOfSpec}
@@ -84,13 +84,7 @@ returns-in_err-read_metadata-clause-batch g c =
             (place_seen place) stands e (c.in_err-read_metadata.ensures.memory k) (c.in_err-read_metadata.ensures.reason k);
       };
       numbers = λ none. has-place m.blocks.items c.args.index block listed place stands none;
-      device = record {
-        monotone = c.in_err-read_metadata.ensures.monotone;
-        failed = c.in_err-read_metadata.ensures.failed;
-        told = c.in_err-read_metadata.ensures.told;
-        whole = c.in_err-read_metadata.ensures.whole;
-        names = c.in_err-read_metadata.ensures.names;
-      };
+      device = device_err g.R.Failures.device c.args.reader.now e c.read_metadata.new.reader c.in_err-read_metadata.ensures.device;
       bounds = record {
         many = tt;
         message = λ k. tt;
@@ -130,8 +124,7 @@ returns-in_err-message-clause-batch g c =
             (rw c.deref.ensures.value at c.in_err-message.ensures.exact);
       };
       numbers = λ none. has-place m.blocks.items c.args.index block listed place stands none;
-      device = device_refused g.R.Failures.device c.args.reader.now c.read_metadata.new.reader (Err e) c.in_ok-read_metadata.ensures.monotone c.in_ok-read_metadata.ensures.told
-          c.in_ok-read_metadata.ensures.whole c.in_ok-read_metadata.ensures.names c.in_err-message.ensures.own;
+      device = device_then g.R.Failures.device c.args.reader.now c.read_metadata.new.reader _ (Err e) c.in_ok-read_metadata.ensures.device c.in_err-message.ensures.own;
       bounds = record {
         many = tt;
         message = λ k. tt;
@@ -173,8 +166,7 @@ returns-in_err-batch-clause-batch g c =
             (rw c.deref.ensures.value at c.in_ok-message.ensures.exact) e (record-kind c.in_ok-message.message (Err e) c.in_err-batch.ensures);
       };
       numbers = λ none. has-place m.blocks.items c.args.index block listed place stands none;
-      device = device_refused g.R.Failures.device c.args.reader.now c.read_metadata.new.reader (Err e) c.in_ok-read_metadata.ensures.monotone c.in_ok-read_metadata.ensures.told
-          c.in_ok-read_metadata.ensures.whole c.in_ok-read_metadata.ensures.names (subst (λ (f : Fault). OnIo {X = Unit {0}} (Err f) ⊥) (sym other) tt);
+      device = device_then g.R.Failures.device c.args.reader.now c.read_metadata.new.reader _ (Err e) c.in_ok-read_metadata.ensures.device (subst (λ (f : Fault). OnIo {X = Unit {0}} (Err f) ⊥) (sym other) tt);
       bounds = record {
         many = tt;
         message = λ k. tt;
@@ -217,24 +209,11 @@ returns-clause-batch g c =
       exact = λ k.
           read-record m ds source projection limit c.args.index block listed place stands
           items (c.in_ok-read_metadata.ensures.memory k) x opened c.in_ok-batch.batch (g.R.Failures.device.memory c.read_metadata.new.reader).whole
-          c.read_record.result c.in_ok-batch.ensures (c.in_ok-read_metadata.ensures.whole (g.met.R.Seeks.known_still k)) (c.read_record.ensures.memory k);
+          c.read_record.result c.in_ok-batch.ensures (c.in_ok-read_metadata.ensures.device.whole (g.met.R.Seeks.known_still k)) (c.read_record.ensures.memory k);
       causes = each_err {Q = BatchCause g.R.Failures.device q c.args.reader.now} c.read_record.result (both_errs _ _ c.read_record.result only reason) (λ e p. record { kind = p.0; reason = p.1 });
       numbers = λ none. has-place m.blocks.items c.args.index block listed place stands none;
-      device = device_after g.R.Failures.device c.args.reader.now c.read_metadata.new.reader (tt {0}) c.read_record.result c.read_record.new.reader
-          (record {
-            monotone = c.in_ok-read_metadata.ensures.monotone;
-            failed = tt;
-            told = c.in_ok-read_metadata.ensures.told;
-            whole = c.in_ok-read_metadata.ensures.whole;
-            names = c.in_ok-read_metadata.ensures.names;
-          })
-          (record {
-            monotone = c.read_record.ensures.monotone;
-            failed = c.read_record.ensures.failed;
-            told = c.read_record.ensures.told;
-            whole = c.read_record.ensures.whole;
-            names = c.read_record.ensures.names;
-          });
+      device = device_after g.R.Failures.device c.args.reader.now c.read_metadata.new.reader _ c.read_record.result c.read_record.new.reader
+          c.in_ok-read_metadata.ensures.device c.read_record.ensures.device;
       bounds = record {
         many = c.read_record.ensures.many;
         message = λ k.

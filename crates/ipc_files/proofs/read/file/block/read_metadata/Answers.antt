@@ -1,6 +1,8 @@
 use Rattle.std.proofs.Common.{rules, ◌≡◌, ◌∙◌, ℕ, List, Err, sym, ap, subst, arith, inl, inr}
+use Rattle.ipc_devices.proofs.Acts.{device_after, device_failed, device_read, device_sought}
 use Rattle.ipc_devices.specs.Device.{after}
 use Rattle.ipc_devices.specs.Faults.{OwnFault}
+use Rattle.ipc_devices.specs.declared.fault.Fault.TheVariants.{Io}
 use Rattle.ipc_model.specs.Frame.{frame}
 use Rattle.ipc_files.specs.Blocks.{frame_fault, prefix_of}
 use Rattle.ipc_files.proofs.BlockFaults.{length-below-0, less-than-stated, no-prefix}
@@ -67,3 +69,22 @@ returns-in_err-read_into-clause-given g c =
           ap prefix_of (sym there) ∙ c.in_ok-length.ensures.number k,
       omega (arith, c.in_ok-seek_to.ensures.given, c.in_ok-length.ensures.given, c.in_err-read_into.ensures.given),
     ))
+
+pub returns-in_err-seek_to-clause-device : goal.returns-in_err-seek_to-clause-device
+returns-in_err-seek_to-clause-device g c =
+    let x = c.in_err-seek_to.field-0.0 in
+    let w = c.in_err-seek_to.ensures in
+    let is : c.from_residual.result ≡ Err (Io x) = search rules in
+    rw is (device_failed g.R.Failures.device c.args.reader.now c.seek_to.new.self x w.monotone w.failed w.whole w.names w.answered)
+
+pub returns-in_err-read_into-clause-device : goal.returns-in_err-read_into-clause-device
+returns-in_err-read_into-clause-device g c =
+    let d = g.R.Failures.device in
+    let e = c.in_err-read_into.field-0.0 in
+    let is : c.from_residual-in_err-read_into.result ≡ Err e = search rules in
+    let sought = c.in_ok-seek_to.ensures in
+    let w = c.in_err-read_into.ensures in
+    rw is
+    (device_sought d c.args.reader.now c.seek_to.new.self (Err e) c.read_into.new.reader sought.monotone sought.done sought.whole sought.names
+    (device_after d c.seek_to.new.self c.read_prefix.new.reader c.in_ok-length.length (Err e) c.read_into.new.reader c.in_ok-length.ensures.device
+    (device_read d c.read_prefix.new.reader (Err e) c.read_into.new.reader w.monotone w.failed w.told w.whole w.names w.answered)))

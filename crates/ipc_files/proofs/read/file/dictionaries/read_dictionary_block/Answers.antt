@@ -50,14 +50,14 @@ returns-in_err-read_values-clause-memory g c = λ k.
     rw is (read-dictionary c.args.metadata.now (known_dictionaries c.args.dictionaries.now) (g.R.Failures.device.memory c.args.reader.now).whole c.args.block.now
     c.in_ok-place.place c.in_ok-place.ensures.place c.read_metadata.new.metadata.items (c.in_ok-read_metadata.ensures.memory k) c.in_ok-message.message
     (ap block_header (sym c.deref.ensures.value) ∙ c.in_ok-message.ensures.meaning) {X = Unit {0}} c.in_ok-batch.batch (g.R.Failures.device.memory c.read_metadata.new.reader).whole
-    (Err e) (known_dictionaries c.read_values.new.dictionaries) c.in_ok-batch.ensures (c.in_ok-read_metadata.ensures.whole (g.met.R.Seeks.known_still k)) (c.in_err-read_values.ensures.memory k))
+    (Err e) (known_dictionaries c.read_values.new.dictionaries) c.in_ok-batch.ensures (c.in_ok-read_metadata.ensures.device.whole (g.met.R.Seeks.known_still k)) (c.in_err-read_values.ensures.memory k))
 
 pub returns-clause-memory : goal.returns-clause-memory
 returns-clause-memory g c = λ k.
     read-dictionary c.args.metadata.now (known_dictionaries c.args.dictionaries.now) (g.R.Failures.device.memory c.args.reader.now).whole c.args.block.now
     c.in_ok-place.place c.in_ok-place.ensures.place c.read_metadata.new.metadata.items (c.in_ok-read_metadata.ensures.memory k) c.in_ok-message.message
     (ap block_header (sym c.deref.ensures.value) ∙ c.in_ok-message.ensures.meaning) {X = Unit {0}} c.in_ok-batch.batch (g.R.Failures.device.memory c.read_metadata.new.reader).whole
-    (Ok tt) (known_dictionaries c.read_values.new.dictionaries) c.in_ok-batch.ensures (c.in_ok-read_metadata.ensures.whole (g.met.R.Seeks.known_still k)) (c.in_ok-read_values.ensures.memory k)
+    (Ok tt) (known_dictionaries c.read_values.new.dictionaries) c.in_ok-batch.ensures (c.in_ok-read_metadata.ensures.device.whole (g.met.R.Seeks.known_still k)) (c.in_ok-read_values.ensures.memory k)
 
 pub returns-clause-message : goal.returns-clause-message
 returns-clause-message g c = λ k.

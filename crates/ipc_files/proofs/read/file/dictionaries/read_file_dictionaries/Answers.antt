@@ -11,7 +11,7 @@ use Rattle.ipc_files.proofs.HeldValues.{EachListed, none_listed, more_listed, ea
 use Rattle.ipc_files.proofs.NeededValues.{GivenFor, all_given, more_given, none_given}
 use Rattle.ipc_files.proofs.TakenBytes.{refused_values}
 use Rattle.ipc_files.proofs.KnownAlike.{next-known, all-known, next-refused}
-use Rattle.ipc_devices.proofs.Acts.{device_after}
+use Rattle.ipc_devices.proofs.Acts.{device_err, device_sought}
 use Rattle.ipc_devices.specs.Faults.{OwnFault}
 use Rattle.ipc_files.proofs.read.file.dictionaries.read_file_dictionaries.Goals as goal
 
@@ -32,11 +32,11 @@ loop-block-init g c = record {
 
 pub loop-block-preserved : goal.loop-block-preserved
 loop-block-preserved g c = record {
-  monotone = omega (arith, c.loop-block.invariant.monotone, c.in_ok-read_dictionary_block.ensures.monotone);
-  told = c.in_ok-read_dictionary_block.ensures.told ∙ c.loop-block.invariant.told;
+  monotone = omega (arith, c.loop-block.invariant.monotone, c.in_ok-read_dictionary_block.ensures.device.monotone);
+  told = c.in_ok-read_dictionary_block.ensures.device.told ∙ c.loop-block.invariant.told;
   idle = c.in_ok-read_dictionary_block.ensures.idle ∙ c.loop-block.invariant.idle;
-  whole = λ k. c.in_ok-read_dictionary_block.ensures.whole k ∙ c.loop-block.invariant.whole k;
-  names = c.in_ok-read_dictionary_block.ensures.names ∙ c.loop-block.invariant.names;
+  whole = λ k. c.in_ok-read_dictionary_block.ensures.device.whole k ∙ c.loop-block.invariant.whole k;
+  names = c.in_ok-read_dictionary_block.ensures.device.names ∙ c.loop-block.invariant.names;
   given = more_given g.R.Failures.device.is_memory (file_seen c.args.metadata.now).schema (g.R.Failures.device.memory c.args.reader.now).whole (g.R.Failures.device.memory c.loop-block.reader).whole
       c.dictionary_blocks-blocks.result.now c.loop-block.block-index _ _ (g.R.Failures.device.given c.loop-block.reader) (g.R.Failures.device.given c.read_dictionary_block.new.reader)
       c.read_dictionary_block.new.message_scratch.items c.loop-block-test.true c.loop-block.invariant.given (λ k. c.loop-block.invariant.whole (g.met.R.Seeks.known_still k))
@@ -82,21 +82,9 @@ returns-in_err-read_dictionary_block-clause-dictionaries g c =
             (c.in_err-read_dictionary_block.ensures.memory k) (c.in_err-read_dictionary_block.ensures.reason k);
       };
       none = λ empty. let size = ap length (c.dictionary_blocks-blocks.ensures ∙ empty) in absurd (omega (arith, c.loop-block-test.true, size));
-      device = device_after g.R.Failures.device c.args.reader.now c.loop-block.reader (tt {0}) (Err e) c.read_dictionary_block.new.reader
-          (record {
-            monotone = c.loop-block.invariant.monotone;
-            failed = tt;
-            told = c.loop-block.invariant.told;
-            whole = c.loop-block.invariant.whole;
-            names = c.loop-block.invariant.names;
-          })
-          (record {
-            monotone = c.in_err-read_dictionary_block.ensures.monotone;
-            failed = c.in_err-read_dictionary_block.ensures.failed;
-            told = c.in_err-read_dictionary_block.ensures.told;
-            whole = c.in_err-read_dictionary_block.ensures.whole;
-            names = c.in_err-read_dictionary_block.ensures.names;
-          });
+      device = device_sought g.R.Failures.device c.args.reader.now c.loop-block.reader (Err e) c.read_dictionary_block.new.reader
+          c.loop-block.invariant.monotone c.loop-block.invariant.told c.loop-block.invariant.whole c.loop-block.invariant.names
+          (device_err g.R.Failures.device c.loop-block.reader e c.read_dictionary_block.new.reader c.in_err-read_dictionary_block.ensures.device);
       bounds = record {
         given = subst (λ (blocks : List Block). RefusedValues g.R.Failures.device.is_memory m.schema source blocks old new) c.dictionary_blocks-blocks.ensures
             (refused_values g.R.Failures.device.is_memory m.schema source (g.R.Failures.device.memory c.loop-block.reader).whole (λ k. c.loop-block.invariant.whole (g.met.R.Seeks.known_still k)) _
@@ -125,6 +113,7 @@ returns-clause-dictionaries g c =
         told = c.loop-block.invariant.told;
         whole = c.loop-block.invariant.whole;
         names = c.loop-block.invariant.names;
+        answered = tt;
       };
       bounds = record {
         given =

@@ -34,6 +34,7 @@ returns-in_err-footer g c =
         told = c.in_err-footer.ensures.device.told;
         whole = c.in_err-footer.ensures.device.whole;
         names = c.in_err-footer.ensures.device.names;
+        answered = c.in_err-footer.ensures.device.answered;
       };
       bounds = record { given = tt; taken = c.in_err-footer.ensures.device.taken };
       fits = tt;

@@ -16,6 +16,7 @@ returns-in_err-check_started g c =
       causes = state_finish c.args.self.now.state fault c.in_err-check_started.ensures.only;
       device = refused_step _ _ _ _ _ _ (record { device = refl; state = refl; types = refl; ids = refl; dictionaries = λ id. refl }) refl
           (state_not_io own fault c.in_err-check_started.ensures.only);
+      flushed = tt;
       state = record { first = state_first own (seen c.args.self.now) _ fault c.in_err-check_started.ensures.only refl; ok = tt };
       content = record { kept = λ k base head chunks h. h };
     })
@@ -26,7 +27,8 @@ returns-in-Ok g c =
     let sent = c.in-Ok.ensures.sends in
     record {
       causes = tt;
-      device = record { monotone = sent.monotone; order = refl; io = tt; refused = tt; done = sent.done; all_sent = sent.memory; some_sent = sent.part; names = sent.names };
+      device = record { monotone = sent.monotone; order = refl; io = tt; answered = tt; refused = tt; done = sent.done; all_sent = sent.memory; some_sent = sent.part; names = sent.names };
+      flushed = c.in-Ok.ensures.flushed;
       state = record { first = first_passed (seen c.args.self.now) _ _ was; ok = (was, refl) };
       content = sent_mark _ _ _ was refl sent.memory;
     }
@@ -36,8 +38,9 @@ returns-in-Err g c =
     let was = c.in_ok-check_started.ensures.ok in
     let sent = c.in-Err.ensures.sends in
     record {
-      causes = io_finish c.args.self.now.state c.in-Err.fault sent.only;
+      causes = io_finish g.W.Failures.device c.args.self.now.state c.in-Err.fault sent.only;
       device = failed_step {X = Unit {0}} _ _ _ _ (prefix_bytes (pos 0)) 8 (omega (arith, length_prefix (pos 0))) sent refl refl;
+      flushed = tt;
       state = record { first = first_passed (seen c.args.self.now) _ _ was; ok = tt };
       content = begun_mark _ _ _ was refl sent.part;
     }

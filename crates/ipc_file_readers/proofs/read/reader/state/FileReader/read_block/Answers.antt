@@ -1,4 +1,6 @@
 use Rattle.std.proofs.Common.{rules, ◌≡◌, ℕ, List, length, Option, Err, refl, sym, subst}
+use Rattle.ipc_devices.proofs.Acts.{none_answered}
+use Rattle.ipc_devices.specs.Device.{IsAnswered}
 use Rattle.ipc_read_flat.specs.Bodies.{known_dictionaries}
 use Rattle.ipc_read.proofs.AskedColumns.{are_prepared}
 use Rattle.ipc_read.specs.Columns.{ArePrepared}
@@ -32,6 +34,7 @@ returns-in_err-chunk g c =
           told = rw is c.in_err-chunk.ensures.batch.device.told;
           whole = c.in_err-chunk.ensures.batch.device.whole;
           names = c.in_err-chunk.ensures.batch.device.names;
+          answered = rw is c.in_err-chunk.ensures.batch.device.answered;
         };
         chunk = λ ds e.
             refused_chunk g.R.Failures.device.is_memory c.args.self.now.projection c.args.self.now.metadata c.args.self.now.remaining c.args.block
@@ -56,6 +59,7 @@ returns g c = record {
       told = unless_io c.in_order.result _ c.in_ok-chunk.ensures.batch.device.told;
       whole = c.in_ok-chunk.ensures.batch.device.whole;
       names = c.in_ok-chunk.ensures.batch.device.names;
+      answered = none_answered c.in_order.result (IsAnswered g.R.Failures.device) (no_io c.in_order.result ⊥ c.in_order.ensures.only);
     };
     chunk = λ ds e.
         read_chunk g.R.Failures.device.is_memory c.args.self.now.projection c.args.self.now.metadata c.args.self.now.remaining c.args.block

@@ -17,7 +17,7 @@ returns-then-is_some g c = record {
     block = refl;
     remaining = refl;
     rooms = refl;
-    asked = record { monotone = omega arith; failed = tt; told = refl; whole = λ _. refl; names = refl };
+    asked = record { monotone = omega arith; failed = tt; told = refl; whole = λ _. refl; names = refl; answered = tt };
     are = known_already known_dictionaries c.args.self.now.dictionaries g.R.Failures.device.is_memory _ (search rules);
     holds = values_already c.args.self.now.dictionaries g.R.Failures.device.is_memory _ _ (search rules);
     left_alone = λ ds e. refl;
@@ -44,7 +44,7 @@ returns-in_err-read g c =
         block = refl;
         remaining = refl;
         rooms = ap (λ (room : Vec ℕ Global). (room, old.message_scratch)) c.in_err-read.ensures.idle;
-        asked = record { monotone = read.device.monotone; failed = read.device.failed; told = read.device.told; whole = read.device.whole; names = read.device.names };
+        asked = record { monotone = read.device.monotone; failed = read.device.failed; told = read.device.told; whole = read.device.whole; names = read.device.names; answered = read.device.answered };
         are = tt;
         holds = tt;
         left_alone = λ ds known. let no : None ≡ Some ds = sym unread ∙ known in absurd cc;
@@ -74,7 +74,7 @@ returns g c =
         block = refl;
         remaining = refl;
         rooms = ap (λ (room : Vec ℕ Global). (room, old.message_scratch)) c.in_ok-read.ensures.idle;
-        asked = record { monotone = read.device.monotone; failed = tt; told = read.device.told; whole = read.device.whole; names = read.device.names };
+        asked = record { monotone = read.device.monotone; failed = tt; told = read.device.told; whole = read.device.whole; names = read.device.names; answered = tt };
         are = (ds, refl, subst (λ (o : Option Dictionaries). AreKnown d.is_memory o (file_dictionaries m source) ds) (sym unread) read.exact);
         holds = subst (λ (o : Option Dictionaries). HoldValues d.is_memory m source o (λ id. values_in old.dictionaries id) after) (sym unread) read.bounds.held;
         left_alone = λ es known. let no : None ≡ Some es = sym unread ∙ known in absurd cc;

@@ -16,7 +16,7 @@ returns-in_err-chunk g c =
         held = gave.held;
         values = gave.values;
         room = gave.room;
-        asked = record { monotone = gave.asked.monotone; failed = gave.asked.failed; told = gave.asked.told; whole = gave.asked.whole; names = gave.asked.names };
+        asked = record { monotone = gave.asked.monotone; failed = gave.asked.failed; told = gave.asked.told; whole = gave.asked.whole; names = gave.asked.names; answered = gave.asked.answered };
         chunk = gave.chunk;
       };
     })
@@ -32,7 +32,7 @@ returns g c =
         held = gave.held;
         values = gave.values;
         room = gave.room;
-        asked = record { monotone = gave.asked.monotone; failed = tt; told = gave.asked.told; whole = gave.asked.whole; names = gave.asked.names };
+        asked = record { monotone = gave.asked.monotone; failed = tt; told = gave.asked.told; whole = gave.asked.whole; names = gave.asked.names; answered = tt };
         chunk = gave.chunk;
       };
     }

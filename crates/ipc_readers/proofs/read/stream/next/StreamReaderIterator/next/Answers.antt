@@ -13,6 +13,7 @@ returns-in-Ok-Some-clause-steps g c =
     record {
       exact = λ k _. next_ahead g.R.Reads.gives g.R.Failures.device g.met.R.Reads.laws.ahead k h (known_of old) (known_of new) (begun_of old) (begun_of new) (Ok (Some c.in-Ok-Some.state)) (device_of old) (device_of new) gave;
       causes = tt;
+      answered = tt;
       gave = λ _. gave;
       held = c.in-Ok-Some.ensures.held;
       values = rw c.in-Ok-Some.field-0-is at c.in-Ok-Some.ensures.values;
@@ -33,6 +34,7 @@ returns-in-Ok-None-clause-steps g c =
     record {
       exact = λ k _. next_ahead g.R.Reads.gives g.R.Failures.device g.met.R.Reads.laws.ahead k h (known_of old) (known_of new) (begun_of old) (begun_of new) (Ok None) (device_of old) (device_of new) gave;
       causes = tt;
+      answered = tt;
       gave = λ _. gave;
       held = c.in-Ok-None.ensures.held;
       values = tt;
@@ -53,6 +55,7 @@ returns-in-Err-clause-steps g c =
     record {
       exact = λ k _. next_ahead g.R.Reads.gives g.R.Failures.device g.met.R.Reads.laws.ahead k h (known_of old) (known_of new) (begun_of old) (begun_of new) (Err c.in-Err.e) (device_of old) (device_of new) gave;
       causes = c.in-Err.ensures.only;
+      answered = c.in-Err.ensures.answered;
       gave = λ _. gave;
       held = c.in-Err.ensures.held;
       values = tt;
@@ -70,6 +73,7 @@ returns-then-self-clause-steps g c =
     record {
       exact = λ k e. absurd (cc (e, c.if-self.true));
       causes = tt;
+      answered = tt;
       gave = λ e. absurd (cc (e, c.if-self.true));
       held = record { bytes = []; stop = going; gave = g.met.R.Reads.laws.nothing (device_of old); each = λ id. inl refl };
       values = tt;

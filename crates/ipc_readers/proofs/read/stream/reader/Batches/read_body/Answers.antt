@@ -1,4 +1,6 @@
 use Rattle.std.proofs.Common.{rules, ◌≡◌, ℕ, Err, List, [], length, subst}
+use Rattle.ipc_devices.proofs.Acts.{answered_in, none_answered}
+use Rattle.ipc_devices.specs.Device.{IsAnswered}
 use Rattle.ipc_devices.specs.Gives.{going}
 use Rattle.ipc_readers.specs.Messages.{header_seen}
 use Rattle.ipc_readers.specs.Streams.{request_in, known_in}
@@ -48,3 +50,15 @@ returns-clause-held g c =
     let all : g.R.Reads.gives c.args.reader.now items going new = g.met.R.Reads.laws.in_order c.args.reader.now [] mid items going new none read.1 in
     kept_of_body g.R.Reads.gives (request_in old) m c.args.reader.now new body c.read_batch-2.result (values_in old) (values_in c.read_batch-2.new.self)
     (subst (λ (l : List ℕ). length l ≡ m.body) same read.0) (subst (λ (l : List ℕ). g.R.Reads.gives c.args.reader.now l going new) same all) c.read_batch-2.ensures.held
+
+pub returns-in_err-read_into-clause-answered : goal.returns-in_err-read_into-clause-answered
+returns-in_err-read_into-clause-answered g c =
+    let fault = c.in_err-read_into.field-0.0 in
+    let e : c.from_residual-in_err-read_into.result ≡ Err fault = search rules in
+    rw e (answered_in {X = Unit {0}} g.R.Failures.device c.read_into.new.reader (Err fault) c.in_err-read_into.ensures.answered)
+
+pub returns-clause-answered : goal.returns-clause-answered
+returns-clause-answered g c = none_answered c.read_batch-2.result (IsAnswered g.R.Failures.device) c.read_batch-2.ensures.own
+
+pub returns-in-Some-clause-answered : goal.returns-in-Some-clause-answered
+returns-in-Some-clause-answered g c = none_answered c.read_batch.result (IsAnswered g.R.Failures.device) c.read_batch.ensures.own
