@@ -13,7 +13,7 @@ use lower_arrays::array::{
     UnionArray, Utf8Array,
 };
 use std::alloc::{AllocError, Global};
-use std::rc::Rc;
+use std::sync::Arc;
 
 /// The kinds of columns, and of a union both modes.
 #[derive(Clone, Copy)]
@@ -257,7 +257,7 @@ fn maps(alloc: Global) -> Result<MapArray, Fault> {
 fn keys_of_texts(alloc: Global) -> Result<DictionaryArray, Fault> {
     let value_type = Box::new(alloc, DataType::Utf8)?;
     let data_type = DataType::Dictionary(IntegerType::Int32, value_type, false);
-    let values = Rc::new(alloc, AnyArray::from(texts(alloc)?))?;
+    let values = Arc::new(alloc, AnyArray::from(texts(alloc)?))?;
     let keys = DictionaryKeys::Int32(numbers_below_two(alloc)?);
     Ok(DictionaryArray::try_new(data_type, keys, values)?)
 }

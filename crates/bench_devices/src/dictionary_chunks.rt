@@ -6,7 +6,7 @@ use ipc_devices::Fault;
 use lower::datatypes::{DataType, Field, IntegerType, Schema};
 use lower_arrays::array::{AnyArray, DictionaryArray, DictionaryKeys, Int32Array};
 use std::alloc::Global;
-use std::rc::Rc;
+use std::sync::Arc;
 
 /// The schema of the column, and the chunks `a`, `b` and `c`.
 #[derive(Drop)]
@@ -77,6 +77,6 @@ pub fn dictionary_chunk(
 ) -> Result<Chunk<AnyArray>, Fault> {
     let values = AnyArray::from(Int32Array::from_slice(alloc, values)?);
     let keys = DictionaryKeys::Int32(Int32Array::from_slice(alloc, keys)?);
-    let column = DictionaryArray::try_new(dictionary_type(alloc)?, keys, Rc::new(alloc, values)?)?;
+    let column = DictionaryArray::try_new(dictionary_type(alloc)?, keys, Arc::new(alloc, values)?)?;
     Chunk::try_new(vec![in alloc; AnyArray::from(column)]?)
 }

@@ -10,6 +10,8 @@ use std::{env, io};
 pub enum Measured {
     /// A stream.
     Stream,
+    /// A stream, whose columns share its memory where they can.
+    Shared,
     /// A file.
     File,
     /// The first column of the last block of a file.
@@ -70,6 +72,8 @@ impl Words {
             self.add(number);
         } else if word == "big" {
             self.options = WriteOptions { big_endian: true };
+        } else if word == "shared" {
+            self.measured = Measured::Shared;
         } else if word == "file" {
             self.measured = Measured::File;
         } else if word == "block" {

@@ -1,12 +1,13 @@
 //! Measures writing and reading of streams and files, compared with plain copies.
 //!
-//! `benchmark [big] [file|chosen|block] [KIND] ROWS COLUMNS ROUNDS [CHUNKS]` writes a stream to
-//! memory that is reused, and reads it back. For each it prints the least time of all rounds.
+//! `benchmark [big] [shared|file|chosen|block] [KIND] ROWS COLUMNS ROUNDS [CHUNKS]` writes a stream
+//! to memory that is reused, and reads it back. For each it prints the least time of all rounds.
 //!
 //! - KIND: the values of the columns: `int64` (the default), `nulls`, `bits3`, `boolean`, `list`,
 //!   `utf8`, `struct`, `dictionary`, `values` or `mixed`.
 //! - ROWS: the rows of each chunk. CHUNKS: how many chunks there are; 1 by default.
 //! - `big`: writes numbers in big-endian order.
+//! - `shared`: reads from memory that the columns may share.
 //! - `file`: writes and reads a file instead.
 //! - `chosen`: reads one column of a stream, and the same column in a stream of its own.
 //! - `block`: reads one column of the last block of a file.
@@ -83,7 +84,7 @@ fn main(rt: HostRuntime) -> Result<(), Fault> {
     };
     let table = make_table(alloc, asked.kind, asked.size, asked.options)?;
     match asked.measured {
-        Measured::Stream | Measured::File => run(&rt, alloc, &table, &asked),
+        Measured::Stream | Measured::Shared | Measured::File => run(&rt, alloc, &table, &asked),
         Measured::Block => run_block(&rt, alloc, &table, &asked),
         Measured::Chosen => {
             let one = Size {

@@ -2,9 +2,10 @@
 
 use crate::asked::Measured;
 use crate::files::{read_file, time_block, write_file};
-use crate::streams::{read_first, read_stream, write_stream};
+use crate::streams::{read_first, read_shared, read_stream, write_stream};
 use crate::tables::Table;
 use ipc_devices::Fault;
+use lower::buffer::Buffer;
 use std::alloc::Global;
 use std::io;
 use std::mem::replace;
@@ -49,7 +50,9 @@ fn time_write<R: Runtime>(
     let taken = replace(out, Vec::new(alloc));
     *out = match measured {
         Measured::File | Measured::Block => write_file(alloc, table, taken)?,
-        Measured::Stream | Measured::Chosen => write_stream(alloc, table, taken)?,
+        Measured::Stream | Measured::Shared | Measured::Chosen => {
+            write_stream(alloc, table, taken)?
+        }
     };
     Ok(start.elapsed(rt)?)
 }
@@ -66,20 +69,42 @@ fn time_copy_again<R: Runtime>(
     Ok(start.elapsed(rt)?)
 }
 
-// Reads what is measured.
+// Reads what is measured. The bytes stay as they are.
 fn time_read<R: Runtime>(
     rt: &R,
     alloc: Global,
     table: &Table,
     measured: Measured,
-    bytes: &[u8],
+    bytes: &mut Vec<u8>,
 ) -> Result<Duration, Fault> {
     match measured {
         Measured::Block => time_block(rt, alloc, bytes),
+        Measured::Shared => time_shared(rt, alloc, table, bytes),
         Measured::Stream | Measured::File | Measured::Chosen => {
             time_chunks(rt, alloc, table, measured, bytes)
         }
     }
+}
+
+// Reads all chunks, which share the memory of the bytes until they are dropped.
+fn time_shared<R: Runtime>(
+    rt: &R,
+    alloc: Global,
+    table: &Table,
+    bytes: &mut Vec<u8>,
+) -> Result<Duration, Fault> {
+    let shared = Buffer::new(replace(bytes, Vec::new(alloc)))?;
+    let start = Instant::now(rt)?;
+    let rows = read_shared(alloc, &shared, table.chunks)?;
+    let time = start.elapsed(rt)?;
+    let Ok(taken) = shared.into_vec() else {
+        return Err(Fault::Ended);
+    };
+    *bytes = taken;
+    if rows != table.chunk.len().saturating_mul(table.chunks as usize) {
+        return Err(Fault::Ended);
+    }
+    Ok(time)
 }
 
 // Reads all chunks. `Ended` if they have another number of rows.
@@ -92,7 +117,7 @@ fn time_chunks<R: Runtime>(
 ) -> Result<Duration, Fault> {
     let start = Instant::now(rt)?;
     let rows = match measured {
-        Measured::Stream => read_stream(alloc, bytes, table.chunks)?,
+        Measured::Stream | Measured::Shared => read_stream(alloc, bytes, table.chunks)?,
         Measured::File | Measured::Block => read_file(alloc, bytes, table.chunks)?,
         Measured::Chosen => read_first(alloc, bytes, table.chunks)?,
     };

@@ -29,7 +29,7 @@ use lower_arrays::array::{
     ListArray, ListOffsets, MapArray, NullArray, StructArray, UnionArray, Utf8Array,
 };
 use serde_json::Value;
-use std::rc::Rc;
+use std::sync::Arc;
 
 /// An array of a case, with at most so many levels.
 #[cycle(arrays)]
@@ -357,7 +357,7 @@ fn dictionary(d: &mut Decoder, value: &Value, values: Option<AnyArray>) -> Optio
     Some(AnyArray::Dictionary(d.take(array)?))
 }
 
-fn shared(d: &mut Decoder, array: AnyArray) -> Option<Rc<AnyArray>> {
-    let array = Rc::new(d.alloc(), array);
+fn shared(d: &mut Decoder, array: AnyArray) -> Option<Arc<AnyArray>> {
+    let array = Arc::new(d.alloc(), array);
     d.take(array)
 }

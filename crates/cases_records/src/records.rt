@@ -26,8 +26,8 @@ use cases_notation::tables::version;
 use cases_notation::types::{LEVELS, fields};
 use ipc_base::chunk::Chunk;
 use ipc_base::ipc::IpcSchema;
-use ipc_devices::MemFile;
 use ipc_devices::fault::Fault;
+use ipc_devices::{Bytes, MemFile};
 use ipc_read::read::Dictionaries;
 use ipc_read::read::common::read_record_batch;
 use ipc_read::read::dictionaries::read_dictionary;
@@ -40,7 +40,7 @@ use lower_types::Endianness;
 use serde_json::Value;
 use std::alloc::Global;
 use std::collections::HashMap;
-use std::rc::Rc;
+use std::sync::Arc;
 
 /// The message of a record batch, its body, and what a reader needs to decode it.
 #[derive(Drop)]
@@ -113,9 +113,9 @@ fn put_dictionary(d: &mut Decoder, out: &mut Dictionaries, known: &Value) {
     }
 }
 
-fn shared(d: &mut Decoder, values: &Value) -> Option<Rc<AnyArray>> {
+fn shared(d: &mut Decoder, values: &Value) -> Option<Arc<AnyArray>> {
     let values = array(d, values, LEVELS)?;
-    let shared = Rc::new(d.alloc(), values);
+    let shared = Arc::new(d.alloc(), values);
     d.take(shared)
 }
 
@@ -165,11 +165,11 @@ impl RecordForm {
     }
 
     /// The chosen columns of a record batch by the reader, in ascending order.
-    pub fn read(
+    pub fn read<B: Bytes + Drop>(
         &self,
         d: &mut Decoder,
         batch: RecordBatchRef,
-        body: &[u8],
+        body: B,
     ) -> Result<Chunk<AnyArray>, Fault> {
         match self.ascending(d) {
             Some(columns) => self.read_prepared(d.alloc(), batch, body, Some(columns.as_slice())),
@@ -188,15 +188,16 @@ impl RecordForm {
         }
     }
 
-    fn read_prepared(
+    fn read_prepared<B: Bytes + Drop>(
         &self,
         alloc: Global,
         batch: RecordBatchRef,
-        body: &[u8],
+        body: B,
         chosen: Option<&[usize]>,
     ) -> Result<Chunk<AnyArray>, Fault>
         requires { ArePrepared (option_copied chosen) (length self.now.fields.items) }
     {
+        let size = body.bytes().len() as u64;
         read_record_batch(
             alloc,
             batch,
@@ -208,7 +209,7 @@ impl RecordForm {
             self.version,
             &mut MemFile::new(body),
             0,
-            body.len() as u64,
+            size,
             &mut Vec::new(alloc),
         )
     }

@@ -1,16 +1,17 @@
 //! Chunks: columns of the same length, in which data is written and read.
-ghost use Rattle.std.specs.Prelude.{◌≡◌, ◌↔◌, ◌<◌, ◌^◌, ℕ, Bool, length, IsTrue, IsOk, IfOk, IfErr};
+ghost use Rattle.std.specs.Prelude.{◌≡◌, ◌↔◌, ◌<◌, ◌^◌, ℕ, Bool, length, map, IsTrue, IsOk, IfOk, IfErr};
 ghost use Rattle.std.specs.Cmp.Lexicographic.{pointwise, lists_per, lists_equiv};
 ghost use Rattle.std.specs.List.{AllZip};
 ghost use Rattle.std.specs.Slice.Iter.{iter_rest};
 ghost use Rattle.std.specs.Iterator.Adapters.{IterYieldsInOrder};
+ghost use Rattle.lower_arrays.specs.AnyLayouts.{layout_of};
 ghost use Rattle.ipc_base.specs.Chunks.{AreEqualRows, row_count};
 ghost use Rattle.ipc_devices.specs.declared.fault.Fault.TheVariants.{Argument};
 ghost use Rattle.ipc_devices.specs.declared.fault.ArgFault.TheVariants.{UnequalRows};
 
 use crate::fault::{ArgFault, Fault};
-use lower_arrays::array::AnyArray;
-use std::alloc::AllocError;
+use lower_arrays::array::{AnyArray, compact_each, retained_each};
+use std::alloc::{AllocError, Global};
 use std::marker::Model;
 use std::slice;
 
@@ -193,6 +194,26 @@ impl<A: Rows + Clone> Chunk<A> {
     {
         let arrays = self.arrays.clone()?;
         Ok(Chunk { arrays })
+    }
+}
+
+impl Chunk<AnyArray> {
+    /// Returns the number of bytes that stay allocated as long as the chunk exists.
+    ///
+    /// It is the sum over its columns, as [`AnyArray::retained_bytes`]: memory that several columns
+    /// share counts for each.
+    pub fn retained_bytes(&self) -> usize {
+        retained_each(self.arrays())
+    }
+
+    /// Returns a chunk of the same columns in memory of its own.
+    ///
+    /// A chunk that was read from shared memory then no longer retains all of it. The error is
+    /// `Fault::Memory`.
+    pub fn compact(&self, alloc: Global) -> Result<Self, Fault>
+        ensures { IfOk result (λ copy. map layout_of copy ≡ map layout_of self.now) }
+    {
+        Chunk::try_new(compact_each(alloc, self.arrays())?)
     }
 }
 

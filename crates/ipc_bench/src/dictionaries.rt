@@ -2,6 +2,7 @@
 //! batch.
 
 use crate::encoding::encode;
+use crate::sharing::shares;
 use crate::stream_read::next_answer;
 use arrow2_ipc::array::AnyArray;
 use arrow2_ipc::chunk::Chunk;
@@ -18,7 +19,7 @@ use bench_devices::single_message::{MessageOnDevice, read_columns, read_values};
 use bench_devices::trace::{Call, Trace};
 use std::alloc::{AllocError, Global};
 use std::collections::HashMap;
-use std::rc::Rc;
+use std::sync::Arc;
 
 // An encoded message, whose body is a device of its own.
 fn on_device(encoded: &EncodedData) -> MessageOnDevice<'_> {
@@ -82,21 +83,21 @@ fn read_encoded_columns(
 }
 
 // Whether each column is a dictionary column with these values, in the same memory.
-fn all_share(chunk: &Chunk<AnyArray>, values: Option<&Rc<AnyArray>>) -> Result<bool, AllocError> {
+fn all_share(chunk: &Chunk<AnyArray>, values: Option<&Arc<AnyArray>>) -> Result<bool, AllocError> {
     let Some(values) = values else {
         return Ok(false);
     };
     for column in chunk.iter() {
-        if !shares(column, values)? {
+        if !is_shared(column, values)? {
             return Ok(false);
         }
     }
     Ok(true)
 }
 
-fn shares(column: &AnyArray, values: &Rc<AnyArray>) -> Result<bool, AllocError> {
+fn is_shared(column: &AnyArray, values: &Arc<AnyArray>) -> Result<bool, AllocError> {
     match column {
-        AnyArray::Dictionary(keys) => Ok(Rc::ptr_eq(&keys.shared_values()?, values)),
+        AnyArray::Dictionary(keys) => shares(keys, values),
         _ => Ok(false),
     }
 }

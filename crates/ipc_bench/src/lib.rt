@@ -40,8 +40,12 @@ mod round_trip;
 #[cfg(test)]
 mod scenario;
 #[cfg(test)]
+mod shared_reading;
+#[cfg(test)]
 mod sharing;
 #[cfg(test)]
 mod stream_read;
 #[cfg(test)]
 mod stream_write;
+#[cfg(test)]
+mod threads;

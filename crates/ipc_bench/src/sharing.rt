@@ -1,7 +1,7 @@
 //! Clones and slices of arrays share the memory of their values.
 //!
 //! No contract states this. A test sees it by `into_vec`, which only returns the vector of a buffer
-//! without another owner.
+//! without another owner, or by the number of owners.
 
 use ipc_devices::Fault;
 use lower::bitmap::Bitmap;
@@ -14,7 +14,7 @@ use lower_arrays::array::{
     Utf8Array,
 };
 use std::alloc::{AllocError, Global};
-use std::rc::Rc;
+use std::sync::Arc;
 
 fn buffer<T: NativeType>(alloc: Global, values: &[T]) -> Result<Buffer<T>, AllocError> {
     Buffer::new(Vec::from_slice(alloc, values)?)
@@ -186,14 +186,20 @@ fn keys(alloc: Global) -> Result<DictionaryKeys, Fault> {
 }
 
 // Three keys into these values.
-fn three_keys(alloc: Global, values: Rc<AnyArray>) -> Result<DictionaryArray, Fault> {
+fn three_keys(alloc: Global, values: Arc<AnyArray>) -> Result<DictionaryArray, Fault> {
     let texts = Box::new(alloc, DataType::Utf8)?;
     let data_type = DataType::Dictionary(IntegerType::Int32, texts, false);
     Ok(DictionaryArray::try_new(data_type, keys(alloc)?, values)?)
 }
 
-fn shares(array: &DictionaryArray, values: &Rc<AnyArray>) -> Result<bool, AllocError> {
-    Ok(Rc::ptr_eq(&array.shared_values()?, values))
+// Whether the array's values are these, in the same memory: then another owner of them counts as
+// one of these.
+pub fn shares(array: &DictionaryArray, values: &Arc<AnyArray>) -> Result<bool, AllocError> {
+    let owners = Arc::strong_count(values);
+    let another = array.shared_values()?;
+    let is_counted = owners < Arc::strong_count(values);
+    drop(another);
+    Ok(is_counted)
 }
 
 // Whether a slice has the last two keys, and both values.
@@ -209,7 +215,7 @@ fn has_two_keys(part: &DictionaryArray) -> bool {
 #[test]
 fn dictionary_arrays_share_values(rt: HostRuntime) -> Result<(), Fault> {
     let alloc = rt.alloc();
-    let values = Rc::new(alloc, two_texts(alloc)?)?;
+    let values = Arc::new(alloc, two_texts(alloc)?)?;
     let array = three_keys(alloc, values.clone()?)?;
     assert!(rt; shares(&array.clone()?, &values)?);
     assert_eq!(rt; array.len(), 3);

@@ -19,3 +19,10 @@ pub record ReadsDevice {R X : Type 0} (d : Device R) (a : R) (r : Result X Fault
 abbrev pub IsIoOf : {S : Type 0} → Device S → Fault → Type 0
 IsIoOf d (Io e) = IsAnswered d e
 IsIoOf d _ = ⊥
+
+-- A call that returns no error took the device from a to b: no failure was counted, and the bytes
+-- stay if reads never change them.
+pub record LeavesDevice {R : Type 0} (d : Device R) (a b : R) : Type 0 where
+  pub failures : d.failures b ≡ d.failures a
+  pub whole : IsTrue d.is_read_only → (d.memory b).whole ≡ (d.memory a).whole
+  pub names : d.names b ≡ d.names a

@@ -2,7 +2,7 @@
 //!
 //! Those of the standard library don't. A call of these returns an error only if the device counted
 //! a failure in it, or if memory that is written to couldn't grow. No failed call is retried.
-ghost use Rattle.std.specs.Prelude.{◌≡◌, ℕ, ◌+◌, ◌<◌, ◌≤◌, ◌↔◌, false, List, [], length, take, IsTrue, IsSome, ◌⊎◌, IfOk, IfErr, IfSome, OnOk, OnErr, MatchResult, MatchOption};
+ghost use Rattle.std.specs.Prelude.{◌≡◌, ℕ, ◌+◌, ◌<◌, ◌≤◌, ◌↔◌, false, List, [], length, take, IsTrue, IsNone, IsSome, ◌⊎◌, IfOk, IfErr, IfSome, OnOk, OnErr, MatchResult, MatchOption};
 ghost use Rattle.std.specs.Io.{ReadsAtMost, WritesAtMost};
 ghost use Rattle.ipc_devices.specs.Device.{Device, Rises, counted, ReadsFront, WritesOver, GoesTo, behind};
 ghost use Rattle.ipc_devices.specs.Gives.{Stop, going, failed, ReadGives, SkipGives, GivesLaws, gives_behind};
@@ -10,6 +10,7 @@ ghost use Rattle.ipc_devices.specs.GivesLaws.{laws_behind};
 ghost use Rattle.std.specs.Io.BufRead.{Rests};
 ghost use types.Logic.{sem};
 
+use lower::buffer::Buffer;
 use std::io;
 
 /// A device that counts the calls that failed.
@@ -68,6 +69,19 @@ pub trait Reads: Failures {
         ensures* after_borrow { sem 𝓛 (Rests Self.row self.entry (λ new. MatchOption result
             (gives self.old [] going new)
             (λ bytes. gives self.old bytes.now going new))) };
+
+    /// Returns the next `count` bytes in memory that the device shares, and moves after them.
+    ///
+    /// No byte is copied. It is `None` if the device doesn't have or doesn't share them; the device
+    /// is unchanged then. The default shares nothing.
+    fn share(&mut self, count: usize) -> Option<Buffer<u8>>
+        ensures count { IfSome result (λ bytes. length bytes ≡ count) }
+        ensures gives { IfSome result (λ bytes. gives self.old bytes going self.new) }
+        ensures none { IsNone result → self.new ≡ self.old }
+    {
+        let _ = count;
+        None
+    }
 
     /// Skips the next `count` bytes, or all if there are fewer.
     ///
@@ -230,6 +244,10 @@ impl<R: Reads> Reads for &mut R {
 
     fn pass(&mut self, count: usize) -> Option<&[u8]> {
         Reads::pass(&mut **self, count)
+    }
+
+    fn share(&mut self, count: usize) -> Option<Buffer<u8>> {
+        Reads::share(&mut **self, count)
     }
 
     fn skip(&mut self, count: usize) -> io::Result<()> {

@@ -1,10 +1,11 @@
 //! Devices in memory. They count no failures, and read and write exactly their bytes.
-ghost use Rattle.std.specs.Prelude.{◌≡◌, ℕ, ◌+◌, ◌-◌, ◌<◌, ◌≤◌, List, [], ◌++◌, length, take, drop, replicate, min, OnOk, OnErr, vec_len, vec_capacity};
+ghost use Rattle.std.specs.Prelude.{◌≡◌, ℕ, ◌+◌, ◌-◌, ◌<◌, ◌≤◌, List, [], ◌++◌, length, take, drop, replicate, min, OnOk, OnErr, IfSome, vec_len, vec_capacity};
 ghost use Rattle.ipc_devices.specs.Device.{before, memory_device};
 ghost use Rattle.ipc_devices.specs.Gives.{memory_gives};
 ghost use Rattle.ipc_devices.specs.GivesLaws.{memory_laws};
 
 use crate::device::{Failures, Reads, Seeks, Writes};
+use lower::buffer::Buffer;
 use std::alloc::AllocError;
 use std::io;
 
@@ -40,6 +41,18 @@ pub trait Bytes {
     /// Returns the bytes.
     fn bytes(&self) -> &[u8]
         ensures { result.now ≡ bytes self.now };
+
+    /// Returns the `count` bytes from index `at` in the same memory, or `None` if it isn't shared.
+    ///
+    /// The default shares nothing.
+    fn share(&self, at: usize, count: usize) -> Option<Buffer<u8>>
+        requires { at + count ≤ length (bytes self.now) }
+        ensures { IfSome result (λ b. b ≡ take count (drop at (bytes self.now))) }
+    {
+        let _ = at;
+        let _ = count;
+        None
+    }
 }
 
 impl Bytes for Vec<u8> {
@@ -62,10 +75,26 @@ impl Bytes for &[u8] {
     }
 }
 
+/// Bytes that several owners share.
+impl Bytes for Buffer<u8> {
+    ghost bytes = { λ b. b };
+
+    ghost capacity = { λ _. 0 };
+
+    fn bytes(&self) -> &[u8] {
+        self.as_slice()
+    }
+
+    fn share(&self, at: usize, count: usize) -> Option<Buffer<u8>> {
+        self.part(at, count).ok()
+    }
+}
+
 /// A file in memory: bytes and a position.
 ///
-/// It reads and seeks. With a `Vec` it also writes, over the bytes at the position; if the position
-/// is after the end, it fills the gap with zeros.
+/// It reads and seeks. With a `Buffer<u8>`, columns that are read share its memory. With a `Vec` it
+/// also writes, over the bytes at the position; if the position is after the end, it fills the gap
+/// with zeros.
 #[derive(Drop)]
 pub struct MemFile<B> {
     inner: B,
@@ -113,6 +142,16 @@ fn rest_of(bytes: &[u8], place: u64) -> &[u8]
     }
 }
 
+// The offset as an index, if so many bytes are after it.
+fn index_of(bytes: &[u8], place: u64, count: usize) -> Option<usize>
+    ensures { IfSome result (λ at. (at ≡ place) × (at + count ≤ length bytes.now)) }
+{
+    match usize::try_from(place) {
+        Ok(at) if at <= bytes.len() && count <= bytes.len() - at => Some(at),
+        _ => None,
+    }
+}
+
 // Copies as many bytes as both have, and returns their number.
 fn copy_front(from: &[u8], to: &mut [u8]) -> usize
     ensures count { result ≡ min (length from.now) (length to.old) }
@@ -152,6 +191,15 @@ impl<B: Bytes> Reads for MemFile<B> {
         self.position += count as u64;
         self.given = self.given.saturating_add(count as u64);
         Some(&rest_of(self.inner.bytes(), place)[..count])
+    }
+
+    fn share(&mut self, count: usize) -> Option<Buffer<u8>> {
+        let at = index_of(self.inner.bytes(), self.position, count)?;
+        let shared = self.inner.share(at, count)?;
+        let length = count as u64;
+        self.position += length;
+        self.given = self.given.saturating_add(length);
+        Some(shared)
     }
 
     fn skip(&mut self, count: usize) -> io::Result<()> {

@@ -2,7 +2,7 @@
 use Rattle.std.proofs.Common.{◌≡◌, ℕ, ℤ, ◌+◌, ◌≤◌, List, map, length, Bool, true, IsTrue, Option, None, Some, Result, Ok, Err, IfOk, IfErr, OnOk, refl, sym, ap, ◌∙◌, subst, false}
 use Rattle.std.specs.Prelude.{slice_get, option_map, is_some}
 use Rattle.std.specs.HashMap.{HashMap}
-use Rattle.std.specs.declared.rc.Rc.{Rc}
+use Rattle.std.specs.declared.sync.Arc.{Arc}
 use Rattle.lower_arrays.specs.declared.array.AnyArray.{AnyArray}
 use Rattle.ipc_devices.proofs.Claims.{claims_through}
 use Rattle.ipc_devices.specs.Faults.{OnIo, UnlessIo, OwnFault}
@@ -108,7 +108,7 @@ pub none_known : {D : Type 0} (view : D → Dictionaries) (o : Option D) → is_
 none_known view None e = refl
 none_known view (Some d) e = absurd cc
 
-pub values_already : {Z S : Type 0} (o : Option (HashMap ℤ (Rc AnyArray Z) S)) (known : Bool) (m : Meaning) (source : List ℕ) → is_some o ≡ true
+pub values_already : {Z S : Type 0} (o : Option (HashMap ℤ (Arc AnyArray Z) S)) (known : Bool) (m : Meaning) (source : List ℕ) → is_some o ≡ true
     → HoldValues known m source (option_map known_dictionaries o) (values_in o) (values_in o)
 values_already None known m source e = absurd cc
 values_already (Some d) known m source e = refl

@@ -3,7 +3,7 @@
 use Rattle.std.specs.Prelude.{◌≡◌, ◌≢◌, ◌⊎◌, ℕ, ℤ, ◌+◌, ◌-◌, ◌≤◌, nat_le, Bool, true, false, IsTrue, IfOk, IfErr, OnOk, List, [], map, length, Option, None, Some, option_map, slice_get, Result, Ok, Err, vec_len, Vec}
 use Rattle.std.specs.HashMap.{HashMap}
 use Rattle.std.specs.declared.alloc.Global.{Global}
-use Rattle.std.specs.declared.rc.Rc.{Rc}
+use Rattle.std.specs.declared.sync.Arc.{Arc}
 use Rattle.lower.specs.declared.datatypes.schema.Schema.{Schema}
 use Rattle.lower_arrays.specs.AnyLayouts.{layout_of}
 use Rattle.lower_arrays.specs.Layouts.{Layout, len_of}
@@ -52,7 +52,7 @@ abbrev pub known_of : {R : Type 0} → FileReader R → Option Dictionaries
 known_of x = option_map known_dictionaries x.dictionaries
 
 -- The arrays of dictionary values by id, once they were read.
-abbrev pub values_in : {Z S : Type 0} → Option (HashMap ℤ (Rc AnyArray Z) S) → Option ℤ → Layout
+abbrev pub values_in : {Z S : Type 0} → Option (HashMap ℤ (Arc AnyArray Z) S) → Option ℤ → Layout
 values_in None id = no_values id
 values_in (Some m) id = array_under m id
 

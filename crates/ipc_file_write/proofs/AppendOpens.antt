@@ -3,7 +3,7 @@ use Rattle.std.proofs.Common.{◌≡◌, ℕ, ℤ, IsTrue, Option, Some, None, r
 use Rattle.std.specs.HashMap.{HashMap, get}
 use Rattle.std.specs.Option.{option_map}
 use Rattle.std.specs.Ordering.{int_eq}
-use Rattle.std.specs.declared.rc.Rc.{Rc}
+use Rattle.std.specs.declared.sync.Arc.{Arc}
 use Rattle.ipc_devices.specs.Device.{Device, GoesTo}
 use Rattle.lower_arrays.specs.AnyLayouts.{layout_of}
 use Rattle.lower_arrays.specs.declared.array.AnyArray.{AnyArray}
@@ -18,7 +18,7 @@ use Rattle.ipc_file_lemmas.specs.Appending.{goes_on}
 use Rattle.ipc_file_write.specs.Appends.{GoesOn, MayGoOn}
 use Rattle.ipc_file_write.specs.FileWriters.{FileSeen}
 
-found-same : {Z : Type 0} (o : Option (Rc AnyArray Z)) → option_map (λ (values : Rc AnyArray Z). dictionary_of (layout_of values.value)) o ≡ dictionary_found o
+found-same : {Z : Type 0} (o : Option (Arc AnyArray Z)) → option_map (λ (values : Arc AnyArray Z). dictionary_of (layout_of values.value)) o ≡ dictionary_found o
 found-same None = refl
 found-same (Some x) = refl
 
@@ -34,10 +34,10 @@ pub record IsMadeOf {W : Type 0} (m : FileMetadata) (w : FileSeen W) : Type 0 wh
   pub blocks : w.blocks ≡ m.blocks
   pub size : w.size ≡ m.size
 
-pub opened : {W Z S : Type 0} (d : Device W) (m : FileMetadata) (device : W) (w : FileSeen W) (place : ℕ) (entries : HashMap ℤ (Rc AnyArray Z) S) → MayGoOn m → place ≡ goes_on m
+pub opened : {W Z S : Type 0} (d : Device W) (m : FileMetadata) (device : W) (w : FileSeen W) (place : ℕ) (entries : HashMap ℤ (Arc AnyArray Z) S) → MayGoOn m → place ≡ goes_on m
     → (IsTrue d.is_memory → GoesTo (d.memory device) (d.memory w.device) place)
     → (IsTrue d.is_memory → AreAlike (file_dictionaries m (d.memory device).whole) (Some (known_dictionaries entries)))
-    → ((id : ℤ) → w.remembers id ≡ option_map (λ (values : Rc AnyArray Z). dictionary_of (layout_of values.value)) (get int_eq entries id)) → w.place ≡ place → IsMadeOf m w
+    → ((id : ℤ) → w.remembers id ≡ option_map (λ (values : Arc AnyArray Z). dictionary_of (layout_of values.value)) (get int_eq entries id)) → w.place ≡ place → IsMadeOf m w
     → GoesOn d m device w
 opened d m device w place entries may at sought alike remembers is_at made = record {
   may = may;

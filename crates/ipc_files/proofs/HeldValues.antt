@@ -6,7 +6,7 @@ use Rattle.std.proofs.lemmas.List.{take_all}
 use Rattle.std.specs.HashMap.{HashMap, IsEmpty}
 use Rattle.std.specs.Map.{lookup}
 use Rattle.std.specs.Ordering.{int_eq}
-use Rattle.std.specs.declared.rc.Rc.{Rc}
+use Rattle.std.specs.declared.sync.Arc.{Arc}
 use Rattle.lower_arrays.specs.Held.{held}
 use Rattle.lower_arrays.specs.Layouts.{Layout}
 use Rattle.lower_arrays.specs.declared.array.AnyArray.{AnyArray}
@@ -45,7 +45,7 @@ module _ (known : Bool) (most : ℕ) (schema : Schema) (source : List ℕ) where
   pub record EachListed (bs : List Block) (values : Option ℤ → Layout) : Type 0 where
     pub each : (id : ℤ) → IsListedByOne known most schema source bs id (held (values (Some id)))
 
-  pub none_listed : {Z S : Type 0} (m : HashMap ℤ (Rc AnyArray Z) S) → IsEmpty m → (bs : List Block) → EachListed (take 0 bs) (λ id. array_under m id)
+  pub none_listed : {Z S : Type 0} (m : HashMap ℤ (Arc AnyArray Z) S) → IsEmpty m → (bs : List Block) → EachListed (take 0 bs) (λ id. array_under m id)
   none_listed m empty bs =
       subst (λ (xs : List Block). EachListed xs (λ id. array_under m id)) (sym (take_none bs))
       (record { each = λ id. ap (λ es. held (array_found (lookup (int_eq id) es))) empty })

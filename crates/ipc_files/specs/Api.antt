@@ -3,7 +3,7 @@
 use Rattle.std.specs.Prelude.{◌≡◌, ◌⊎◌, ℕ, ℤ, ◌+◌, ◌≤◌, List, [], map, length, slice_get, Option, None, Some, Result, Err, IfOk, IfErr, OnOk, IsOk, IsTrue}
 use Rattle.std.specs.Option.{option_and_then}
 use Rattle.std.specs.HashMap.{HashMap}
-use Rattle.std.specs.declared.rc.Rc.{Rc}
+use Rattle.std.specs.declared.sync.Arc.{Arc}
 use Rattle.lower.specs.TypeViews.{fields_view, pairs_of, schema_view}
 use Rattle.lower_arrays.specs.AnyLayouts.{layout_of}
 use Rattle.lower_arrays.specs.declared.array.AnyArray.{AnyArray}
@@ -82,14 +82,14 @@ pub record DictionariesCause {R : Type 0} (d : Device R) (file : Meaning) (a : R
   pub reason : IsTrue d.is_memory → OwnFault e (DictionariesReason file (d.memory a).whole [] file.dictionaries e)
 
 -- How much `read_file_dictionaries` reads and retains.
-pub record DictionariesBounds {R Z S : Type 0} (d : Device R) (file : Meaning) (a : R) (r : Result (HashMap ℤ (Rc AnyArray Z) S) Fault) (b : R) : Type 0 where
+pub record DictionariesBounds {R Z S : Type 0} (d : Device R) (file : Meaning) (a : R) (r : Result (HashMap ℤ (Arc AnyArray Z) S) Fault) (b : R) : Type 0 where
   -- At most what the blocks need is read, or those up to the refused one.
   pub given : ValuesTaken d.is_memory file (d.memory a).whole r (d.given a) (d.given b)
   -- Each array retains at most the encoded length of its block's buffers.
   pub held : IfOk r (λ known. HoldListed d.is_memory file (d.memory a).whole (λ id. array_under known id))
 
 -- `read_file_dictionaries`: it took the device from a to b, and returned r.
-pub record ReadsDictionaries {R Z S : Type 0} (d : Device R) (file : Meaning) (a : R) (r : Result (HashMap ℤ (Rc AnyArray Z) S) Fault) (b : R) : Type 0 where
+pub record ReadsDictionaries {R Z S : Type 0} (d : Device R) (file : Meaning) (a : R) (r : Result (HashMap ℤ (Arc AnyArray Z) S) Fault) (b : R) : Type 0 where
   -- Reading from memory, it is Ok exactly if each block is valid, and returns their values.
   pub exact : IsTrue d.is_memory → GivesKnown (λ known. known_dictionaries known) r (file_dictionaries file (d.memory a).whole)
   -- What an error means.
@@ -119,7 +119,7 @@ pub record BlockRequest : Type 0 where
   pub index : ℕ
 
 -- The request of a call of `read_batch`, by its arguments.
-abbrev pub block_request : {Z S : Type 0} → FileMetadata → HashMap ℤ (Rc AnyArray Z) S → Option (List ℕ) → Limit → ℕ → BlockRequest
+abbrev pub block_request : {Z S : Type 0} → FileMetadata → HashMap ℤ (Arc AnyArray Z) S → Option (List ℕ) → Limit → ℕ → BlockRequest
 block_request m dictionaries projection limit index = record {
   file = file_seen m;
   known = known_dictionaries dictionaries;

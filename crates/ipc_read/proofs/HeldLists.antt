@@ -5,7 +5,7 @@ use Rattle.std.proofs.lemmas.List.{get_or_past}
 use Rattle.std.proofs.lemmas.List.Sums.{sum_by-cons}
 use Rattle.std.specs.HashMap.{HashMap, Updates}
 use Rattle.std.specs.Ordering.{int_eq}
-use Rattle.std.specs.declared.rc.Rc.{Rc}
+use Rattle.std.specs.declared.sync.Arc.{Arc}
 use Rattle.lower.specs.TypeTrees.{TypeTree}
 use Rattle.lower_types.specs.declared.Endianness.{Endianness}
 use Rattle.lower_arrays.specs.AnyLayouts.{layout_of}
@@ -81,13 +81,13 @@ column_held d b lists m order extra known o u is x same fronted listed_so fits h
     (held_total d b lists m order extra known o ts (0 ∷ []) (arrays_held (x ∷ [])) same fronted listed_so (omega (arith, h, one)))
 
 pub values_held :
-    {Z S : Type 0} (m n : HashMap ℤ (Rc AnyArray Z) S) (id : ℤ) (x : Rc AnyArray Z) → Updates int_eq m n id (Some x) → (most : ℕ) (schema : Schema) (extra : ℕ) (t values : Spot) (p : Place)
+    {Z S : Type 0} (m n : HashMap ℤ (Arc AnyArray Z) S) (id : ℤ) (x : Arc AnyArray Z) → Updates int_eq m n id (Some x) → (most : ℕ) (schema : Schema) (extra : ℕ) (t values : Spot) (p : Place)
     → dictionary_head t ≡ Some (id, values) → place_of (places schema.fields schema.ids) id ≡ Some p
     → HoldChosen most (lists_of values) extra (kinds (values_schema p schema.order)) (0 ∷ []) (x.value ∷ [])
     → HoldsValues most schema extra t (λ i. array_under m i) (λ i. array_under n i)
 values_held m n id x put most schema extra t values p headed placed h =
     let one = sum_by-cons (λ (y : AnyArray). held (layout_of y)) x.value [] in
-    let e1 = ap (λ (o : Option (Rc AnyArray _)). held (array_found o)) put.1 in
+    let e1 = ap (λ (o : Option (Arc AnyArray _)). held (array_found o)) put.1 in
     record {
       id = id;
       values = values;

@@ -4,7 +4,7 @@ use Rattle.std.specs.Prelude.{IfSome}
 use Rattle.std.specs.HashMap.{HashMap, get, IsEmpty, IsUnchanged, Updates}
 use Rattle.std.specs.Option.{option_map}
 use Rattle.std.specs.Ordering.{int_eq}
-use Rattle.std.specs.declared.rc.Rc.{Rc}
+use Rattle.std.specs.declared.sync.Arc.{Arc}
 use Rattle.lower.specs.Normal.{norm}
 use Rattle.lower.specs.TypeTrees.{TypeTree}
 use Rattle.lower_arrays.specs.AnyLayouts.{layout_of}
@@ -21,18 +21,18 @@ use Rattle.ipc_read.proofs.Meanings.{some_is}
 use Rattle.ipc_read.specs.DictionaryBatches.{dictionary_head, PutsCases, PutsValues}
 
 -- of a map without entries none are known
-pub empty_known : {Z S : Type 0} (m : HashMap ℤ (Rc AnyArray Z) S) → IsEmpty m → known_dictionaries m ≡ []
+pub empty_known : {Z S : Type 0} (m : HashMap ℤ (Arc AnyArray Z) S) → IsEmpty m → known_dictionaries m ≡ []
 empty_known m empty = ap (map known_entry) empty
 
 -- What is known of a map that stayed the same.
-pub same_known : {Z S : Type 0} (m n : HashMap ℤ (Rc AnyArray Z) S) → IsUnchanged m n → known_dictionaries n ≡ known_dictionaries m
+pub same_known : {Z S : Type 0} (m n : HashMap ℤ (Arc AnyArray Z) S) → IsUnchanged m n → known_dictionaries n ≡ known_dictionaries m
 same_known m n same = ap (map known_entry) same
 
 -- the values under an id are those of the array that the map has there
-pub known_at : {Z S : Type 0} (m : HashMap ℤ (Rc AnyArray Z) S) (id : ℤ) → dictionary_at (known_dictionaries m) id ≡ dictionary_found (get int_eq m id)
+pub known_at : {Z S : Type 0} (m : HashMap ℤ (Arc AnyArray Z) S) (id : ℤ) → dictionary_at (known_dictionaries m) id ≡ dictionary_found (get int_eq m id)
 known_at m id = found_under m id
 
-module _ {Z S : Type 0} (m n : HashMap ℤ (Rc AnyArray Z) S) (id : ℤ) (x : Rc AnyArray Z) (put : Updates int_eq m n id (Some x)) where
+module _ {Z S : Type 0} (m n : HashMap ℤ (Arc AnyArray Z) S) (id : ℤ) (x : Arc AnyArray Z) (put : Updates int_eq m n id (Some x)) where
   -- An array that is put into a map comes before the others.
   pub known_put : KnowAlike ((id, dictionary_of (layout_of x.value)) ∷ known_dictionaries m) (known_dictionaries n)
   known_put = record {
@@ -53,7 +53,7 @@ module _ {Z S : Type 0} (m n : HashMap ℤ (Rc AnyArray Z) S) (id : ℤ) (x : Rc
   pub puts_cases : (t values : Spot) → dictionary_head t ≡ Some (id, values) → HasListCases (layout_of x.value) → PutsCases t (λ i. array_under n i)
   puts_cases t values head has =
       subst (λ (o : Option (ℤ × Spot)). IfSome o (λ h. HasListCases (array_under n (Some h.0)))) (sym head)
-      (subst (λ (o : Option (Rc AnyArray Z)). HasListCases (array_found o)) (sym put.1) has)
+      (subst (λ (o : Option (Arc AnyArray Z)). HasListCases (array_found o)) (sym put.1) has)
 
   -- it is what a dictionary batch puts under its id
   pub puts_values : (known : Bool) (schema : Schema) (t values : Spot) (p : Place) → dictionary_head t ≡ Some (id, values)

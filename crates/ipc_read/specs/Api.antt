@@ -2,7 +2,7 @@
 -- (Arrow columnar format, "RecordBatch message", "Dictionary messages".)
 use Rattle.std.specs.Prelude.{◌≡◌, ℕ, ℤ, ◌+◌, ◌≤◌, List, map, length, Option, Result, IfOk, IfErr, OnOk, OnErr, IsTrue}
 use Rattle.std.specs.HashMap.{HashMap, IsUnchanged}
-use Rattle.std.specs.declared.rc.Rc.{Rc}
+use Rattle.std.specs.declared.sync.Arc.{Arc}
 use Rattle.lower.specs.declared.datatypes.Field.{Field}
 use Rattle.lower_arrays.specs.AnyLayouts.{layout_of}
 use Rattle.lower_arrays.specs.declared.array.AnyArray.{AnyArray}
@@ -51,7 +51,7 @@ pub record BatchRequest : Type 0 where
   pub limit : Limit
 
 -- The request of a call of `read_record_batch`, by its arguments.
-abbrev pub batch_request : {Z S : Type 0} → List Field → IpcSchema → HashMap ℤ (Rc AnyArray Z) S → MetadataVersion → (base size : ℕ) → Spot → Option (List ℕ) → Limit → BatchRequest
+abbrev pub batch_request : {Z S : Type 0} → List Field → IpcSchema → HashMap ℤ (Arc AnyArray Z) S → MetadataVersion → (base size : ℕ) → Spot → Option (List ℕ) → Limit → BatchRequest
 batch_request fields ids dictionaries version base size t projection limit = record {
   schema = batch_schema fields ids;
   extra = extra_of version;
@@ -127,14 +127,14 @@ pub record DictionaryCause {R : Type 0} (d : Device R) (q : DictionaryRequest) (
   pub entries : TellsOfValues d.is_memory q.schema q.extra known (body_on d a q.base q.size) q.table e
 
 -- How much `read_dictionary` reads and retains.
-pub record DictionaryBounds {R Z S : Type 0} (d : Device R) (q : DictionaryRequest) (a : R) (before : HashMap ℤ (Rc AnyArray Z) S) (r : Result (Unit {0}) Fault) (b : R) (after : HashMap ℤ (Rc AnyArray Z) S) : Type 0 where
+pub record DictionaryBounds {R Z S : Type 0} (d : Device R) (q : DictionaryRequest) (a : R) (before : HashMap ℤ (Arc AnyArray Z) S) (r : Result (Unit {0}) Fault) (b : R) (after : HashMap ℤ (Arc AnyArray Z) S) : Type 0 where
   -- At most the encoded length of the values' buffers is read from the device.
   pub given : d.given b ≤ d.given a + values_listed q.schema q.extra q.table
   -- The array retains at most that length, plus one offset for each empty offset buffer.
   pub held : OnOk r (HoldsValues q.size q.schema q.extra q.table (λ id. array_under before id) (λ id. array_under after id))
 
 -- What becomes of the dictionaries in `read_dictionary`.
-pub record DictionaryState {R Z S : Type 0} (d : Device R) (q : DictionaryRequest) (before : HashMap ℤ (Rc AnyArray Z) S) (r : Result (Unit {0}) Fault) (after : HashMap ℤ (Rc AnyArray Z) S) : Type 0 where
+pub record DictionaryState {R Z S : Type 0} (d : Device R) (q : DictionaryRequest) (before : HashMap ℤ (Arc AnyArray Z) S) (r : Result (Unit {0}) Fault) (after : HashMap ℤ (Arc AnyArray Z) S) : Type 0 where
   -- If it is Ok, the values are set under the id, and those under other ids stay.
   pub put : OnOk r (PutsValues d.is_memory q.schema q.table (known_dictionaries before) (known_dictionaries after))
   -- Reading from memory, lists are List with 32-bit offsets, and LargeList with 64-bit offsets.
@@ -144,7 +144,7 @@ pub record DictionaryState {R Z S : Type 0} (d : Device R) (q : DictionaryReques
 
 -- `read_dictionary`: it took the device from a to b and the dictionaries from `before` to `after`,
 -- and returned r.
-pub record ReadsDictionary {R Z S : Type 0} (d : Device R) (q : DictionaryRequest) (a : R) (before : HashMap ℤ (Rc AnyArray Z) S) (r : Result (Unit {0}) Fault) (b : R) (after : HashMap ℤ (Rc AnyArray Z) S) : Type 0 where
+pub record ReadsDictionary {R Z S : Type 0} (d : Device R) (q : DictionaryRequest) (a : R) (before : HashMap ℤ (Arc AnyArray Z) S) (r : Result (Unit {0}) Fault) (b : R) (after : HashMap ℤ (Arc AnyArray Z) S) : Type 0 where
   -- Reading from memory, it is Ok exactly if the batch has a meaning, whose values are then known.
   pub exact : IsTrue d.is_memory
       → GivesDictionary q.schema q.extra (known_dictionaries before) (body_on d a q.base q.size) q.table r (known_dictionaries after)

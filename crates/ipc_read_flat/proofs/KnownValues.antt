@@ -8,7 +8,7 @@ use Rattle.std.specs.Map.{lookup}
 use Rattle.std.specs.Option.{option_map, unwrap_or}
 use Rattle.std.specs.Ordering.{int_eq}
 use Rattle.std.specs.declared.alloc.Global.{Global}
-use Rattle.std.specs.declared.rc.Rc.{Rc}
+use Rattle.std.specs.declared.sync.Arc.{Arc}
 use Rattle.lower.specs.Normal.{norm}
 use Rattle.lower.specs.TypeTrees.{TypeTree}
 use Rattle.lower_arrays.specs.AnyLayouts.{layout_of}
@@ -24,22 +24,22 @@ use Rattle.ipc_read_flat.specs.declared.read.body.Body.{Body}
 -- ---- a map and its list
 
 -- what was found under an id, as the definitions have it
-abbrev pub dictionary_found : {Z : Type 0} → Option (Rc AnyArray Z) → Option Dictionary
+abbrev pub dictionary_found : {Z : Type 0} → Option (Arc AnyArray Z) → Option Dictionary
 dictionary_found None = None
 dictionary_found (Some x) = Some (dictionary_of (layout_of x.value))
 
 module _ {Z : Type 0} where
-  pub found_first : (b : Bool) (x : Rc AnyArray Z) (o : Option (Rc AnyArray Z)) → cond b (Some (dictionary_of (layout_of x.value))) (dictionary_found o) ≡ dictionary_found (cond b (Some x) o)
+  pub found_first : (b : Bool) (x : Arc AnyArray Z) (o : Option (Arc AnyArray Z)) → cond b (Some (dictionary_of (layout_of x.value))) (dictionary_found o) ≡ dictionary_found (cond b (Some x) o)
   found_first true x o = refl
   found_first false x o = refl
 
-  found_in : (es : List (ℤ × Rc AnyArray Z)) (id : ℤ) → dictionary_at (map known_entry es) id ≡ dictionary_found (lookup (int_eq id) es)
+  found_in : (es : List (ℤ × Arc AnyArray Z)) (id : ℤ) → dictionary_at (map known_entry es) id ≡ dictionary_found (lookup (int_eq id) es)
   found_in [] id = refl
   found_in (e ∷ es) id =
       (λ i. cond (int_eq_equiv.symm e.0 id i) (Some (dictionary_of (layout_of e.1.value))) (found_in es id i))
       ∙ found_first (int_eq id e.0) e.1 (lookup (int_eq id) es)
 
-  pub found_under : {S : Type 0} (m : HashMap ℤ (Rc AnyArray Z) S) (id : ℤ) → dictionary_at (known_dictionaries m) id ≡ dictionary_found (get int_eq m id)
+  pub found_under : {S : Type 0} (m : HashMap ℤ (Arc AnyArray Z) S) (id : ℤ) → dictionary_at (known_dictionaries m) id ≡ dictionary_found (get int_eq m id)
   found_under m id = found_in m.entries id
 
 -- ---- what a column of keys needs of it
@@ -53,7 +53,7 @@ module _ {R : Type 0} (d : Device R) (b : Body R) where
   unfolding entries
   known_is id = found_under b.dictionaries.now id
 
-  found_slots : {Z : Type 0} (o : Option (Rc AnyArray Z)) → slots (array_found o) ≡ slots_in (dictionary_found o)
+  found_slots : {Z : Type 0} (o : Option (Arc AnyArray Z)) → slots (array_found o) ≡ slots_in (dictionary_found o)
   found_slots None = refl
   found_slots (Some x) = refl
 
@@ -74,16 +74,16 @@ module _ {R : Type 0} (d : Device R) (b : Body R) where
       absurd cc
 
   -- the array that was found has the type of the definitions, and is the one that is known
-  pub type_known : (id : ℤ) (x : Rc AnyArray Global) → get int_eq b.dictionaries.now id ≡ Some x → values_type (entries d b) (Some id) ≡ Some (norm (type_of (layout_of x.value)))
+  pub type_known : (id : ℤ) (x : Arc AnyArray Global) → get int_eq b.dictionaries.now id ≡ Some x → values_type (entries d b) (Some id) ≡ Some (norm (type_of (layout_of x.value)))
   type_known id x there = ap (option_map (λ (y : Dictionary). y.type)) (known_is id ∙ ap dictionary_found there)
 
   -- The array that is known is no other.
   pub other_typed :
-      (id : ℤ) (x : Rc AnyArray Global) (t : TypeTree) → get int_eq b.dictionaries.now id ≡ Some x → (norm (type_of (layout_of x.value)) ≡ t → ⊥)
+      (id : ℤ) (x : Arc AnyArray Global) (t : TypeTree) → get int_eq b.dictionaries.now id ≡ Some x → (norm (type_of (layout_of x.value)) ≡ t → ⊥)
       → IsSome (values_type (entries d b) (Some id)) × (values_type (entries d b) (Some id) ≡ Some t → ⊥)
   other_typed id x t there other = (subst IsSome (sym (type_known id x there)) refl, λ e. other (ap (λ (o : Option TypeTree). unwrap_or o t) (sym (type_known id x there) ∙ e)))
 
-  pub array_known : (id : ℤ) (x : Rc AnyArray Global) → get int_eq b.dictionaries.now id ≡ Some x → layout_of x.value ≡ known b (Some id)
+  pub array_known : (id : ℤ) (x : Arc AnyArray Global) → get int_eq b.dictionaries.now id ≡ Some x → layout_of x.value ≡ known b (Some id)
   array_known id x there = sym (ap array_found there)
 
   -- The array has as many slots.

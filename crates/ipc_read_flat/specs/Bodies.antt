@@ -4,7 +4,7 @@ use Rattle.ipc_devices.specs.Device.{Device}
 use Rattle.std.specs.Prelude.{◌≡◌, ℕ, ◌+◌, ◌≤◌, ℤ, List, map, length, Option, None, Some, IsTrue}
 use Rattle.std.specs.HashMap.{HashMap, get}
 use Rattle.std.specs.Ordering.{int_eq}
-use Rattle.std.specs.declared.rc.Rc.{Rc}
+use Rattle.std.specs.declared.sync.Arc.{Arc}
 use Rattle.lower.specs.Normal.{norm}
 use Rattle.lower.specs.TypeTrees.{null, plain}
 use Rattle.lower_arrays.specs.AnyLayouts.{layout_of}
@@ -25,11 +25,11 @@ abbrev pub dictionary_of : Layout → Dictionary
 dictionary_of l = record { type = norm (type_of l); slots = slots l }
 
 -- An id and its array, as a dictionary.
-abbrev pub known_entry : {Z : Type 0} → ℤ × Rc AnyArray Z → ℤ × Dictionary
+abbrev pub known_entry : {Z : Type 0} → ℤ × Arc AnyArray Z → ℤ × Dictionary
 known_entry x = (x.0, dictionary_of (layout_of x.1.value))
 
 -- The arrays of a map, which are the values of dictionaries, by their ids.
-abbrev pub known_dictionaries : {Z S : Type 0} → HashMap ℤ (Rc AnyArray Z) S → Dictionaries
+abbrev pub known_dictionaries : {Z S : Type 0} → HashMap ℤ (Arc AnyArray Z) S → Dictionaries
 known_dictionaries m = map known_entry m.entries
 
 -- What the columns of a batch are read from.
@@ -47,12 +47,12 @@ abbrev pub no_values : Option ℤ → Layout
 no_values id = layout (whole_level (plain null) 0 nothing) no_layouts
 
 -- The array that was found under an id; one without slots if there is none.
-abbrev pub array_found : {Z : Type 0} → Option (Rc AnyArray Z) → Layout
+abbrev pub array_found : {Z : Type 0} → Option (Arc AnyArray Z) → Layout
 array_found None = no_values None
 array_found (Some x) = layout_of x.value
 
 -- The array that a map has under an id; one without slots if there is none.
-abbrev pub array_under : {Z S : Type 0} → HashMap ℤ (Rc AnyArray Z) S → Option ℤ → Layout
+abbrev pub array_under : {Z S : Type 0} → HashMap ℤ (Arc AnyArray Z) S → Option ℤ → Layout
 array_under m None = no_values None
 array_under m (Some id) = array_found (get int_eq m id)
 

@@ -6,9 +6,9 @@ pub mod read_basic;
 
 use lower_arrays::array::AnyArray;
 use std::collections::HashMap;
-use std::rc::Rc;
+use std::sync::Arc;
 
 /// The values of dictionaries by their ids, which the arrays that are read share.
 ///
 /// See "Dictionary messages" in the Arrow columnar format.
-pub type Dictionaries = HashMap<i64, Rc<AnyArray>>;
+pub type Dictionaries = HashMap<i64, Arc<AnyArray>>;

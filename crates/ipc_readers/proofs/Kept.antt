@@ -5,7 +5,7 @@ use Rattle.std.proofs.lemmas.Bool.Decides.{Decides-int_eq}
 use Rattle.std.specs.HashMap.{HashMap, IsUnchanged}
 use Rattle.std.specs.Map.{lookup}
 use Rattle.std.specs.Ordering.{int_eq}
-use Rattle.std.specs.declared.rc.Rc.{Rc}
+use Rattle.std.specs.declared.sync.Arc.{Arc}
 use Rattle.lower_arrays.specs.Held.{held}
 use Rattle.lower_arrays.specs.Layouts.{Layout}
 use Rattle.lower_arrays.specs.declared.array.AnyArray.{AnyArray}
@@ -26,7 +26,7 @@ use Rattle.ipc_readers.specs.declared.read.stream.reader.Found.TheVariants as fr
 -- ---- one message
 
 -- a map that stayed the same has the same arrays
-pub same_arrays : {Z S : Type 0} (m n : HashMap ℤ (Rc AnyArray Z) S) → IsUnchanged m n → (id : ℤ) → array_under n (Some id) ≡ array_under m (Some id)
+pub same_arrays : {Z S : Type 0} (m n : HashMap ℤ (Arc AnyArray Z) S) → IsUnchanged m n → (id : ℤ) → array_under n (Some id) ≡ array_under m (Some id)
 same_arrays m n same id = ap (λ es. array_found (lookup (int_eq id) es)) same
 
 -- A batch whose body was read.

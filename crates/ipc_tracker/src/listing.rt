@@ -17,8 +17,8 @@ use ipc_devices::{ArgFault, Fault};
 use lower_arrays::array::{AnyArray, DictionaryArray};
 use std::alloc::Global;
 use std::collections::HashMap;
-use std::rc::Rc;
 use std::slice;
+use std::sync::Arc;
 
 /// Returns the dictionaries of a chunk's columns that must be written.
 ///
@@ -56,7 +56,7 @@ pub fn list_dictionaries(
 #[derive(Drop)]
 struct Listing {
     // The values of the chunk under each id so far.
-    met: HashMap<i64, Rc<AnyArray>>,
+    met: HashMap<i64, Arc<AnyArray>>,
     // The dictionaries that must be written, in order.
     list: Vec<NewDictionary>,
 }

@@ -16,7 +16,7 @@ use lower_arrays::equal;
 use lower_flat_arrays::equality::has_same_slots;
 use std::alloc::Global;
 use std::collections::HashMap;
-use std::rc::Rc;
+use std::sync::Arc;
 
 /// Returns whether two arrays are the same values of a dictionary.
 ///
@@ -40,7 +40,7 @@ pub struct NewDictionary {
     /// The id of the dictionary.
     pub id: i64,
     /// The values, which share their memory with the array that they come from.
-    pub values: Rc<AnyArray>,
+    pub values: Arc<AnyArray>,
 }
 
 /// The values that were written last under each dictionary id.
@@ -50,7 +50,7 @@ pub struct NewDictionary {
 #[derive(Drop)]
 pub struct DictionaryTracker {
     /// The values by id, which share memory with the arrays they come from.
-    pub dictionaries: HashMap<i64, Rc<AnyArray>>,
+    pub dictionaries: HashMap<i64, Arc<AnyArray>>,
     /// Whether the values of an id must not be replaced, as in a file.
     pub cannot_replace: bool,
 }
@@ -124,7 +124,7 @@ impl DictionaryTracker {
     }
 
     // Records values.
-    fn put(&mut self, id: i64, values: Rc<AnyArray>) -> Result<(), Fault>
+    fn put(&mut self, id: i64, values: Arc<AnyArray>) -> Result<(), Fault>
         ensures put { OnOk result (IsSameMemory (remembering id (dictionary_of (layout_of values.value)) (remembered self.old)) (remembered self.new)) }
         ensures kept { OnErr result (IsSameMemory (remembered self.old) (remembered self.new)) }
         ensures only { IfErr result (λ fault. fault ≡ Memory) }

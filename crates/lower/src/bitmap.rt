@@ -2,7 +2,7 @@
 //!
 //! Arrow columnar format, "Validity bitmaps": bit `i` is bit `i % 8` of byte `i / 8`, and bit 0 of
 //! a byte is its lowest.
-ghost use Rattle.std.specs.Prelude.{◌≡◌, ◌+◌, ◌-◌, ◌*◌, ◌/◌, ◌%◌, ◌<◌, ◌≤◌, length, take, drop, MatchResult, IsErrOf, List, get_or, false, map, IsTrue, ◌↔◌, []};
+ghost use Rattle.std.specs.Prelude.{◌≡◌, ◌+◌, ◌-◌, ◌*◌, ◌/◌, ◌%◌, ◌<◌, ◌≤◌, length, take, drop, IfOk, MatchResult, IsErrOf, List, get_or, false, map, IsTrue, ◌↔◌, []};
 ghost use Rattle.std.specs.Iterator.{YieldsFirst, item_count};
 ghost use Rattle.std.specs.List.{range_with_len};
 ghost use Rattle.lower.specs.Bits.{has_bit};
@@ -11,7 +11,7 @@ ghost use Rattle.lower.specs.declared.error.Rule.{Rule};
 
 use crate::buffer::Buffer;
 use crate::error::{Error, Rule};
-use std::alloc::AllocError;
+use std::alloc::{AllocError, Global};
 use std::fmt;
 use std::marker::Model;
 
@@ -139,6 +139,32 @@ impl Bitmap {
         ensures { IsTrue result ↔ self.now ≡ [] }
     {
         self.len() == 0
+    }
+
+    /// Returns the number of bytes that stay allocated as long as this bitmap exists, as
+    /// [`Buffer::retained_bytes`].
+    #[tactic(auto, using(crate::proofs::BitLists::bit_lists))]
+    pub fn retained_bytes(&self) -> usize
+        ensures { length self.now ≤ 8 * result }
+    {
+        self.bytes.retained_bytes()
+    }
+
+    /// Returns the same bits in memory of their own, which has only the bytes that they need.
+    #[tactic(auto, using(crate::proofs::BitLists::bit_lists))]
+    pub fn compact(&self, alloc: Global) -> Result<Self, AllocError>
+        ensures { IfOk result (λ b. b ≡ self.now) }
+    {
+        let first = self.offset / 8;
+        let shift = self.offset % 8;
+        let needed = (shift + self.len).div_ceil(8);
+        let part = self.bytes.part(first, needed)?;
+        let bytes = part.compact(alloc)?;
+        Ok(Bitmap {
+            bytes,
+            offset: shift,
+            len: self.len,
+        })
     }
 
     /// Iterates over the bits, in order.

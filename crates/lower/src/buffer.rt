@@ -2,20 +2,21 @@
 //!
 //! Arrow columnar format, "Physical Memory Layout": the memory of an array consists of such
 //! buffers, and a slice of an array shares them.
-ghost use Rattle.std.specs.Prelude.{◌≡◌, ◌+◌, ◌<◌, ◌≤◌, length, take, drop, IfOk, MatchResult, List, slice_index_or, nat_eq, IsTrue, ◌↔◌, [], ◌^◌};
+ghost use Rattle.std.specs.Prelude.{◌≡◌, ◌+◌, ◌-◌, ◌*◌, ◌<◌, ◌≤◌, min, length, take, drop, IfOk, MatchResult, List, slice_index_or, nat_eq, IsTrue, ◌↔◌, [], ◌^◌};
 ghost use Rattle.std.specs.Slice.Iter.{iter_rest};
 ghost use Rattle.std.specs.Iterator.Adapters.{IterYieldsInOrder};
 
-use std::alloc::AllocError;
+use lower_types::NativeType;
+use std::alloc::{AllocError, Global};
 use std::marker::Model;
 use std::ops::Index;
-use std::rc::Rc;
+use std::sync::Arc;
 use std::{fmt, slice};
 
 /// All values of a vector or a range of them. Clones and slices share the memory.
 #[derive(Drop)]
 pub struct Buffer<T: Copy> {
-    all: Rc<Vec<T>>,
+    all: Arc<Vec<T>>,
     offset: usize,
     len: usize,
 }
@@ -64,7 +65,7 @@ impl<T: Copy> Buffer<T> {
     {
         let len = all.len();
         Ok(Buffer {
-            all: Rc::new(*all.allocator(), all)?,
+            all: Arc::new(*all.allocator(), all)?,
             offset: 0,
             len,
         })
@@ -138,10 +139,17 @@ impl<T: Copy> Buffer<T> {
         if offset != 0 || len != all.len() {
             return Err(Buffer { all, offset, len });
         }
-        match Rc::try_unwrap(all) {
+        match Arc::try_unwrap(all) {
             Ok(vec) => Ok(vec),
             Err(all) => Err(Buffer { all, offset, len }),
         }
+    }
+
+    /// Returns a buffer of the same values in memory of its own, which has no others.
+    pub fn compact(&self, alloc: Global) -> Result<Self, AllocError>
+        ensures { IfOk result (λ b. b ≡ self.now) }
+    {
+        Buffer::new(Vec::from_slice(alloc, self.as_slice())?)
     }
 
     /// Iterates over the values, in order.
@@ -151,6 +159,18 @@ impl<T: Copy> Buffer<T> {
         ensures runs { IterYieldsInOrder T }
     {
         self.as_slice().iter()
+    }
+}
+
+impl<T: NativeType> Buffer<T> {
+    /// Returns the number of bytes that stay allocated as long as this buffer exists.
+    ///
+    /// It is that of the whole memory, even if this buffer is only a part of it, and also if other
+    /// buffers share it. It is `usize::MAX` if there are more.
+    pub fn retained_bytes(&self) -> usize
+        ensures { min (T.width * length self.now) (2 ^ 64 - 1) ≤ result }
+    {
+        self.all.capacity().saturating_mul(T::width())
     }
 }
 

@@ -2,13 +2,13 @@
 //!
 //! Arrow columnar format, "Variable-size Binary Layout": slot `i` is from offset `i` to offset
 //! `i + 1`, so there is one offset more than slots.
-ghost use Rattle.std.specs.Prelude.{◌≡◌, ℕ, ℤ, pos, ◌+◌, ◌-◌, ◌^◌, ◌<◌, ◌≤◌, ◌≤ℤ◌, ◌↔◌, length, take, drop, map, slice_index, IsTrue, IfErr, MatchResult, MatchOption};
+ghost use Rattle.std.specs.Prelude.{◌≡◌, ℕ, ℤ, pos, ◌+◌, ◌-◌, ◌*◌, ◌^◌, ◌<◌, ◌≤◌, min, ◌≤ℤ◌, ◌↔◌, length, take, drop, map, slice_index, IsTrue, IfOk, IfErr, MatchResult, MatchOption};
 ghost use Rattle.lower.specs.Offsets.{AreOffsets, BreaksOffsets, IsOffsets, places, NeverFalls};
 
 use crate::buffer::Buffer;
 use crate::error::{Error, Rule};
 use lower_types::NativeType;
-use std::alloc::AllocError;
+use std::alloc::{AllocError, Global};
 use std::fmt;
 use std::marker::Model;
 
@@ -207,6 +207,23 @@ impl<O: Offset> OffsetsBuffer<O> {
     {
         prove!(len < self.offsets.len());
         self.offsets.slice(offset, len + 1);
+    }
+
+    /// Returns the number of bytes that stay allocated as long as these offsets exist, as
+    /// [`Buffer::retained_bytes`].
+    pub fn retained_bytes(&self) -> usize
+        ensures { min (O.width * length self.now) (2 ^ 64 - 1) ≤ result }
+    {
+        self.offsets.retained_bytes()
+    }
+
+    /// Returns the same offsets in memory of their own.
+    pub fn compact(&self, alloc: Global) -> Result<Self, AllocError>
+        ensures { IfOk result (λ o. o ≡ self.now) }
+    {
+        Ok(OffsetsBuffer {
+            offsets: self.offsets.compact(alloc)?,
+        })
     }
 }
 

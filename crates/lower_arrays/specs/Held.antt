@@ -1,4 +1,5 @@
--- How many bytes of memory an array retains, without those of a dictionary's values.
+-- How many bytes the slots of an array take, without those of a dictionary's values. An array
+-- retains no more, unless a buffer of it is a part of larger memory, which it retains whole.
 -- (Arrow columnar format, "Buffer Listing for Each Layout".)
 use Rattle.std.specs.Prelude.{ℕ, ◌+◌, ◌*◌, ◌≤◌, ℤ, List, length, Option, None, Some}
 use Rattle.std.specs.Int.{div_ceil}

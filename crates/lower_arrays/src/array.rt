@@ -17,6 +17,7 @@ mod map;
 mod struct_;
 mod union;
 
+pub use children::{compact_each, retained_each};
 pub use dictionary::{DictionaryArray, DictionaryArray as AnyDictionary, is_dictionary};
 pub use fixed_size_list::FixedSizeListArray;
 pub use list::ListArray;
@@ -33,7 +34,7 @@ pub use lower_validation::numbers::AnyPrimitive;
 pub use lower_validation::numeric::Numeric;
 pub use lower_validation::offsets::ListOffsets;
 pub use map::MapArray;
-use std::alloc::AllocError;
+use std::alloc::{AllocError, Global};
 use std::mem;
 pub use struct_::StructArray;
 pub use union::UnionArray;
@@ -252,6 +253,61 @@ impl AnyArray {
             AnyArray::Union(array) => Ok(AnyArray::Union(array.copy()?)),
             AnyArray::Map(array) => Ok(AnyArray::Map(array.copy()?)),
             AnyArray::Dictionary(array) => Ok(AnyArray::Dictionary(array.clone()?)),
+        }
+    }
+
+    /// Returns the number of bytes that stay allocated as long as the array exists.
+    ///
+    /// It is the sum over the buffers of the array, its children and its dictionary (see
+    /// [`Buffer::retained_bytes`](lower::buffer::Buffer::retained_bytes)). Memory that several of
+    /// them share counts for each; data types don't count.
+    #[cycle(retains)]
+    pub fn retained_bytes(&self) -> usize {
+        match self {
+            AnyArray::Null(array) => array.retained_bytes(),
+            AnyArray::Boolean(array) => array.retained_bytes(),
+            AnyArray::Primitive(array) => array.retained_bytes(),
+            AnyArray::FixedSizeBinary(array) => array.retained_bytes(),
+            AnyArray::Binary(array) => array.retained_bytes(),
+            AnyArray::LargeBinary(array) => array.retained_bytes(),
+            AnyArray::Utf8(array) => array.retained_bytes(),
+            AnyArray::LargeUtf8(array) => array.retained_bytes(),
+            AnyArray::List(array) => array.retained_bytes(),
+            AnyArray::LargeList(array) => array.retained_bytes(),
+            AnyArray::FixedSizeList(array) => array.retained_bytes(),
+            AnyArray::Struct(array) => array.retained_bytes(),
+            AnyArray::Union(array) => array.retained_bytes(),
+            AnyArray::Map(array) => array.retained_bytes(),
+            AnyArray::Dictionary(array) => array.retained_bytes(),
+        }
+    }
+
+    /// Returns an array of the same slots in memory of its own.
+    ///
+    /// A part of a larger buffer then no longer retains all of it. The values of a dictionary are
+    /// copied too. It fails only if an allocation fails.
+    #[cycle(compacts)]
+    pub fn compact(&self, alloc: Global) -> Result<Self, AllocError>
+        ensures { IfOk result (λ copy. layout_of copy ≡ layout_of self.now) }
+    {
+        match self {
+            AnyArray::Null(array) => Ok(AnyArray::Null(array.clone()?)),
+            AnyArray::Boolean(array) => Ok(AnyArray::Boolean(array.compact(alloc)?)),
+            AnyArray::Primitive(array) => Ok(AnyArray::Primitive(array.compact(alloc)?)),
+            AnyArray::FixedSizeBinary(array) => Ok(AnyArray::FixedSizeBinary(array.compact(
+                alloc,
+            )?)),
+            AnyArray::Binary(array) => Ok(AnyArray::Binary(array.compact(alloc)?)),
+            AnyArray::LargeBinary(array) => Ok(AnyArray::LargeBinary(array.compact(alloc)?)),
+            AnyArray::Utf8(array) => Ok(AnyArray::Utf8(array.compact(alloc)?)),
+            AnyArray::LargeUtf8(array) => Ok(AnyArray::LargeUtf8(array.compact(alloc)?)),
+            AnyArray::List(array) => Ok(AnyArray::List(array.compact(alloc)?)),
+            AnyArray::LargeList(array) => Ok(AnyArray::LargeList(array.compact(alloc)?)),
+            AnyArray::FixedSizeList(array) => Ok(AnyArray::FixedSizeList(array.compact(alloc)?)),
+            AnyArray::Struct(array) => Ok(AnyArray::Struct(array.compact(alloc)?)),
+            AnyArray::Union(array) => Ok(AnyArray::Union(array.compact(alloc)?)),
+            AnyArray::Map(array) => Ok(AnyArray::Map(array.compact(alloc)?)),
+            AnyArray::Dictionary(array) => Ok(AnyArray::Dictionary(array.compact(alloc)?)),
         }
     }
 }

@@ -1,5 +1,5 @@
 //! Arrays of byte strings of any length.
-ghost use Rattle.std.specs.Prelude.{◌≡◌, ◌+◌, ◌≤◌, MatchResult, IsTrue, not, ◌↔◌, ◌<◌};
+ghost use Rattle.std.specs.Prelude.{◌≡◌, ◌+◌, ◌≤◌, MatchResult, IfOk, IsTrue, not, ◌↔◌, ◌<◌, ◌-◌, ◌^◌, length, min};
 ghost use Rattle.std.specs.Option.{option_copied};
 ghost use Rattle.std.specs.Iterator.{YieldsFirstBy, item_count};
 ghost use Rattle.lower.specs.TypeViews.{type_view};
@@ -8,14 +8,17 @@ ghost use Rattle.lower_flat_arrays.specs.Validities.{null_count_of, is_valid};
 ghost use Rattle.lower_flat_arrays.specs.Spans.{spans_seen, span_count, span, cut_spans};
 ghost use Rattle.lower_flat_arrays.specs.Binaries.{bytes_with, IsBinary, BreaksBinary};
 
-use crate::validity::{clone_validity, fits, is_valid_at, sliced_validity, unset_bits};
+use crate::validity::{
+    clone_validity, compact_validity, fits, is_valid_at, sliced_validity, unset_bits,
+    validity_bytes,
+};
 use lower::bitmap::Bitmap;
 use lower::buffer::Buffer;
 use lower::datatypes::{DataType, PhysicalType};
 use lower::error::{Error, Rule};
 use lower::offset::{Offset, OffsetsBuffer};
 use lower::types::PrimitiveType;
-use std::alloc::AllocError;
+use std::alloc::{AllocError, Global};
 use std::fmt;
 use std::marker::Model;
 
@@ -211,6 +214,33 @@ impl<O: Offset> BinaryArray<O> {
             array: self,
             index: 0,
         }
+    }
+
+    /// Returns the number of bytes that stay allocated as long as the array exists.
+    ///
+    /// See [`Buffer::retained_bytes`](lower::buffer::Buffer::retained_bytes). Memory that several
+    /// of its buffers share counts for each.
+    pub fn retained_bytes(&self) -> usize
+        ensures { min (length self.now.values) (2 ^ 64 - 1) ≤ result }
+    {
+        self.offsets
+            .retained_bytes()
+            .saturating_add(self.values.retained_bytes())
+            .saturating_add(validity_bytes(&self.validity))
+    }
+
+    /// Returns an array of the same slots in memory of its own.
+    ///
+    /// It fails only if an allocation fails.
+    pub fn compact(&self, alloc: Global) -> Result<Self, AllocError>
+        ensures { IfOk result (λ copy. copy ≡ self.now) }
+    {
+        Ok(BinaryArray {
+            data_type: self.data_type.clone()?,
+            offsets: self.offsets.compact(alloc)?,
+            values: self.values.compact(alloc)?,
+            validity: compact_validity(alloc, &self.validity)?,
+        })
     }
 }
 

@@ -1,5 +1,5 @@
 //! Arrays of booleans.
-ghost use Rattle.std.specs.Prelude.{◌≡◌, ◌+◌, ◌≤◌, length, MatchResult, IsTrue, not, false, ◌↔◌, ◌<◌, get_or, false};
+ghost use Rattle.std.specs.Prelude.{◌≡◌, ◌+◌, ◌≤◌, length, MatchResult, IfOk, IsTrue, not, false, ◌↔◌, ◌<◌, get_or, false, ◌-◌, ◌^◌, min, ◌*◌};
 ghost use Rattle.std.specs.Option.{option_copied};
 ghost use Rattle.std.specs.Iterator.{YieldsFirst, item_count};
 ghost use Rattle.lower.specs.TypeViews.{type_view};
@@ -7,11 +7,14 @@ ghost use Rattle.lower_flat_arrays.specs.Options.{option_where, options};
 ghost use Rattle.lower_flat_arrays.specs.Validities.{null_count_of, is_valid};
 ghost use Rattle.lower_flat_arrays.specs.Booleans.{boolean_seen, IsBoolean, BreaksBoolean, cut_boolean};
 
-use crate::validity::{clone_validity, fits, is_valid_at, sliced_validity, unset_bits};
+use crate::validity::{
+    clone_validity, compact_validity, fits, is_valid_at, sliced_validity, unset_bits,
+    validity_bytes,
+};
 use lower::bitmap::Bitmap;
 use lower::datatypes::{DataType, PhysicalType};
 use lower::error::{Error, Rule};
-use std::alloc::AllocError;
+use std::alloc::{AllocError, Global};
 use std::fmt;
 use std::marker::Model;
 
@@ -171,6 +174,31 @@ impl BooleanArray {
             array: self,
             index: 0,
         }
+    }
+
+    /// Returns the number of bytes that stay allocated as long as the array exists.
+    ///
+    /// See [`Buffer::retained_bytes`](lower::buffer::Buffer::retained_bytes). Memory that several
+    /// of its buffers share counts for each.
+    pub fn retained_bytes(&self) -> usize
+        ensures { min (length self.now.values) (2 ^ 64 - 1) ≤ 8 * result }
+    {
+        self.values
+            .retained_bytes()
+            .saturating_add(validity_bytes(&self.validity))
+    }
+
+    /// Returns an array of the same slots in memory of its own.
+    ///
+    /// It fails only if an allocation fails.
+    pub fn compact(&self, alloc: Global) -> Result<Self, AllocError>
+        ensures { IfOk result (λ copy. copy ≡ self.now) }
+    {
+        Ok(BooleanArray {
+            data_type: self.data_type.clone()?,
+            values: self.values.compact(alloc)?,
+            validity: compact_validity(alloc, &self.validity)?,
+        })
     }
 }
 

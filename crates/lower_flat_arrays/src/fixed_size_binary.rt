@@ -1,5 +1,5 @@
 //! Arrays of byte strings of one length.
-ghost use Rattle.std.specs.Prelude.{◌≡◌, ◌+◌, ◌*◌, ◌≤◌, MatchResult, IsTrue, not, ◌↔◌, ◌<◌};
+ghost use Rattle.std.specs.Prelude.{◌≡◌, ◌+◌, ◌*◌, ◌≤◌, MatchResult, IfOk, IsTrue, not, ◌↔◌, ◌<◌, ◌-◌, ◌^◌, length, min};
 ghost use Rattle.std.specs.Option.{option_copied};
 ghost use Rattle.std.specs.Iterator.{YieldsFirstBy, item_count};
 ghost use Rattle.lower.specs.TypeViews.{type_view};
@@ -7,12 +7,15 @@ ghost use Rattle.lower_flat_arrays.specs.Options.{option_where, options, pieces}
 ghost use Rattle.lower_flat_arrays.specs.Validities.{null_count_of, is_valid, part};
 ghost use Rattle.lower_flat_arrays.specs.FixedBinaries.{byte_size, fixed_seen, IsFixedBinary, BreaksFixedBinary, cut_fixed};
 
-use crate::validity::{clone_validity, fits, is_valid_at, sliced_validity, unset_bits};
+use crate::validity::{
+    clone_validity, compact_validity, fits, is_valid_at, sliced_validity, unset_bits,
+    validity_bytes,
+};
 use lower::bitmap::Bitmap;
 use lower::buffer::Buffer;
 use lower::datatypes::{DataType, PhysicalType};
 use lower::error::{Error, Rule};
-use std::alloc::AllocError;
+use std::alloc::{AllocError, Global};
 use std::fmt;
 use std::marker::Model;
 
@@ -212,6 +215,33 @@ impl FixedSizeBinaryArray {
             array: self,
             index: 0,
         }
+    }
+
+    /// Returns the number of bytes that stay allocated as long as the array exists.
+    ///
+    /// See [`Buffer::retained_bytes`](lower::buffer::Buffer::retained_bytes). Memory that several
+    /// of its buffers share counts for each.
+    pub fn retained_bytes(&self) -> usize
+        ensures { min (length self.now.values) (2 ^ 64 - 1) ≤ result }
+    {
+        self.values
+            .retained_bytes()
+            .saturating_add(validity_bytes(&self.validity))
+    }
+
+    /// Returns an array of the same slots in memory of its own.
+    ///
+    /// It fails only if an allocation fails.
+    pub fn compact(&self, alloc: Global) -> Result<Self, AllocError>
+        ensures { IfOk result (λ copy. copy ≡ self.now) }
+    {
+        Ok(FixedSizeBinaryArray {
+            data_type: self.data_type.clone()?,
+            size: self.size,
+            len: self.len,
+            values: self.values.compact(alloc)?,
+            validity: compact_validity(alloc, &self.validity)?,
+        })
     }
 }
 

@@ -109,6 +109,14 @@ impl NullArray {
     {
         !self.is_valid(index)
     }
+
+    /// Returns 0: the array has no buffers.
+    pub fn retained_bytes(&self) -> usize
+        ensures { result ≡ 0 }
+    {
+        let _ = &self.len;
+        0
+    }
 }
 
 impl Clone for NullArray {

@@ -1,5 +1,5 @@
 //! Arrays of numbers.
-ghost use Rattle.std.specs.Prelude.{◌≡◌, ◌+◌, ◌≤◌, length, MatchResult, MatchOption, IsTrue, IfOk, not, true, false, None, get_or, ◌↔◌, ◌<◌};
+ghost use Rattle.std.specs.Prelude.{◌≡◌, ◌+◌, ◌≤◌, length, MatchResult, MatchOption, IsTrue, IfOk, not, true, false, None, get_or, ◌↔◌, ◌<◌, ◌-◌, ◌^◌, min, ◌*◌};
 ghost use Rattle.std.specs.Option.{option_copied};
 ghost use Rattle.std.specs.Iterator.{YieldsFirst, item_count};
 ghost use Rattle.lower.specs.TypeTrees.{plain};
@@ -9,7 +9,10 @@ ghost use Rattle.lower_flat_arrays.specs.Options.{options};
 ghost use Rattle.lower_flat_arrays.specs.Validities.{null_count_of, is_valid};
 ghost use Rattle.lower_flat_arrays.specs.Primitives.{primitive_seen, IsPrimitive, BreaksPrimitive, cut_primitive};
 
-use crate::validity::{clone_validity, fits, is_valid_at, sliced_validity, unset_bits};
+use crate::validity::{
+    clone_validity, compact_validity, fits, is_valid_at, sliced_validity, unset_bits,
+    validity_bytes,
+};
 use lower::bitmap::Bitmap;
 use lower::buffer::Buffer;
 use lower::datatypes::{DataType, PhysicalType};
@@ -240,6 +243,31 @@ impl<T: NativeType> PrimitiveArray<T> {
         ensures { IfOk result (λ a. a ≡ primitive_seen (plain (number_type T.primitive)) values.now None) }
     {
         PrimitiveArray::from_vec(Vec::from_slice(alloc, values)?)
+    }
+
+    /// Returns the number of bytes that stay allocated as long as the array exists.
+    ///
+    /// See [`Buffer::retained_bytes`](lower::buffer::Buffer::retained_bytes). Memory that several
+    /// of its buffers share counts for each.
+    pub fn retained_bytes(&self) -> usize
+        ensures { min (T.width * length self.now.values) (2 ^ 64 - 1) ≤ result }
+    {
+        self.values
+            .retained_bytes()
+            .saturating_add(validity_bytes(&self.validity))
+    }
+
+    /// Returns an array of the same slots in memory of its own.
+    ///
+    /// It fails only if an allocation fails.
+    pub fn compact(&self, alloc: Global) -> Result<Self, AllocError>
+        ensures { IfOk result (λ copy. copy ≡ self.now) }
+    {
+        Ok(PrimitiveArray {
+            data_type: self.data_type.clone()?,
+            values: self.values.compact(alloc)?,
+            validity: compact_validity(alloc, &self.validity)?,
+        })
     }
 }
 

@@ -5,7 +5,7 @@ ghost use Rattle.lower.specs.Bits.{has_bit};
 ghost use Rattle.lower_flat_arrays.specs.Validities.{part, unset_along, null_count_of, is_valid, ValidityFits, ValidityHolds, cut_validity};
 
 use lower::bitmap::Bitmap;
-use std::alloc::AllocError;
+use std::alloc::{AllocError, Global};
 
 /// Returns whether there is no bitmap, or one of `len` bits.
 pub fn fits(validity: &Option<Bitmap>, len: usize) -> bool
@@ -133,5 +133,27 @@ pub fn clone_validity(validity: &Option<Bitmap>) -> Result<Option<Bitmap>, Alloc
     match validity {
         None => Ok(None),
         Some(bits) => Ok(Some(bits.clone()?)),
+    }
+}
+
+/// Returns the same bits in memory of their own.
+pub fn compact_validity(
+    alloc: Global,
+    validity: &Option<Bitmap>,
+) -> Result<Option<Bitmap>, AllocError>
+    ensures { IfOk result (λ copy. copy ≡ validity.now) }
+{
+    match validity {
+        None => Ok(None),
+        Some(bits) => Ok(Some(bits.compact(alloc)?)),
+    }
+}
+
+/// Returns the number of bytes that the bits retain, as
+/// [`Buffer::retained_bytes`](lower::buffer::Buffer::retained_bytes).
+pub fn validity_bytes(validity: &Option<Bitmap>) -> usize {
+    match validity {
+        None => 0,
+        Some(bits) => bits.retained_bytes(),
     }
 }

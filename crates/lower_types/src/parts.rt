@@ -1,8 +1,8 @@
 //! Numbers of several parts: calendar intervals and 256-bit integers.
 //!
 //! Arrow columnar format, "Byte Order (Endianness)": the byte order applies to each part of an
-//! interval, and the parts keep the order in which they are declared here. A 256-bit integer is one
-//! number, so the byte order applies to its halves too.
+//! interval, and the parts keep the order in which they are declared here, in memory too. A 256-bit
+//! integer is one number, so the byte order applies to its halves too.
 ghost use Rattle.std.specs.Prelude.{◌≡◌, ℕ, List, ◌+◌, ◌*◌, ◌/◌, ◌^◌, ◌<◌, ◌≤◌, ◌++◌, ◌↔◌, length, drop, vec_len, OnOk, IsTrue, refl};
 ghost use Rattle.std.specs.Int.{w32, w64, w128};
 ghost use Rattle.std.specs.Int.RustNames.{FitsSigned};
@@ -20,6 +20,7 @@ use std::alloc::AllocError;
 ///
 /// The parts don't add up, since a day has no fixed length.
 #[derive(Debug, Clone, Copy, PartialEq, Eq)]
+#[repr(C)]
 pub struct days_ms {
     pub days: i32,
     pub milliseconds: i32,
@@ -29,6 +30,7 @@ pub struct days_ms {
 ///
 /// The parts don't add up, since months and days have no fixed length.
 #[derive(Debug, Clone, Copy, PartialEq, Eq)]
+#[repr(C)]
 pub struct months_days_ns {
     pub months: i32,
     pub days: i32,
@@ -36,10 +38,13 @@ pub struct months_days_ns {
 }
 
 /// A signed 256-bit integer: `2 ^ 128` times the high half, plus the low half.
+///
+/// In memory the low half comes first, as in Arrow's little-endian buffers.
 #[derive(Debug, Clone, Copy, PartialEq, Eq)]
+#[repr(C)]
 pub struct i256 {
-    pub high: i128,
     pub low: u128,
+    pub high: i128,
 }
 
 impl NativeType for days_ms {

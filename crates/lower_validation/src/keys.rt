@@ -1,5 +1,5 @@
 //! The keys of dictionaries (Arrow columnar format, "Dictionary-encoded Layout").
-ghost use Rattle.std.specs.Prelude.{◌≡◌, ◌↔◌, ℤ, pos, ◌+◌, ◌<◌, ◌≤◌, ◌<ℤ◌, length, map, get_or, IsTrue, MatchOption};
+ghost use Rattle.std.specs.Prelude.{◌≡◌, ◌↔◌, ℤ, pos, ◌+◌, ◌<◌, ◌≤◌, ◌<ℤ◌, length, map, get_or, IsTrue, MatchOption, IfOk};
 ghost use Rattle.std.specs.Option.{option_copied};
 ghost use Rattle.lower.specs.TypeViews.{type_view};
 ghost use Rattle.lower.specs.declared.datatypes.IntegerType.{IntegerType};
@@ -11,7 +11,7 @@ use lower::bitmap::Bitmap;
 use lower::datatypes::{DataType, IntegerType};
 use lower::types::NativeType;
 use lower_flat_arrays::PrimitiveArray;
-use std::alloc::AllocError;
+use std::alloc::{AllocError, Global};
 use std::fmt;
 
 /// An integer type that the keys of a dictionary can have.
@@ -393,6 +393,39 @@ impl DictionaryKeys {
             DictionaryKeys::UInt16(keys) => DictionaryKeys::UInt16(keys.sliced(offset, len)),
             DictionaryKeys::UInt32(keys) => DictionaryKeys::UInt32(keys.sliced(offset, len)),
             DictionaryKeys::UInt64(keys) => DictionaryKeys::UInt64(keys.sliced(offset, len)),
+        }
+    }
+
+    /// Returns the number of bytes that stay allocated as long as the keys exist.
+    ///
+    /// See [`Buffer::retained_bytes`](lower::buffer::Buffer::retained_bytes). Memory that several
+    /// of its buffers share counts for each.
+    pub fn retained_bytes(&self) -> usize {
+        match self {
+            DictionaryKeys::Int8(keys) => keys.retained_bytes(),
+            DictionaryKeys::Int16(keys) => keys.retained_bytes(),
+            DictionaryKeys::Int32(keys) => keys.retained_bytes(),
+            DictionaryKeys::Int64(keys) => keys.retained_bytes(),
+            DictionaryKeys::UInt8(keys) => keys.retained_bytes(),
+            DictionaryKeys::UInt16(keys) => keys.retained_bytes(),
+            DictionaryKeys::UInt32(keys) => keys.retained_bytes(),
+            DictionaryKeys::UInt64(keys) => keys.retained_bytes(),
+        }
+    }
+
+    /// Returns the same keys in memory of their own. It fails only if an allocation fails.
+    pub fn compact(&self, alloc: Global) -> Result<Self, AllocError>
+        ensures { IfOk result (λ copy. keys_seen copy ≡ keys_seen self.now) }
+    {
+        match self {
+            DictionaryKeys::Int8(keys) => Ok(DictionaryKeys::Int8(keys.compact(alloc)?)),
+            DictionaryKeys::Int16(keys) => Ok(DictionaryKeys::Int16(keys.compact(alloc)?)),
+            DictionaryKeys::Int32(keys) => Ok(DictionaryKeys::Int32(keys.compact(alloc)?)),
+            DictionaryKeys::Int64(keys) => Ok(DictionaryKeys::Int64(keys.compact(alloc)?)),
+            DictionaryKeys::UInt8(keys) => Ok(DictionaryKeys::UInt8(keys.compact(alloc)?)),
+            DictionaryKeys::UInt16(keys) => Ok(DictionaryKeys::UInt16(keys.compact(alloc)?)),
+            DictionaryKeys::UInt32(keys) => Ok(DictionaryKeys::UInt32(keys.compact(alloc)?)),
+            DictionaryKeys::UInt64(keys) => Ok(DictionaryKeys::UInt64(keys.compact(alloc)?)),
         }
     }
 }

@@ -1,5 +1,5 @@
 //! Arrays of numbers of any type except floats.
-ghost use Rattle.std.specs.Prelude.{◌≡◌, ◌↔◌, ◌+◌, ◌≤◌, IsTrue};
+ghost use Rattle.std.specs.Prelude.{◌≡◌, ◌↔◌, ◌+◌, ◌≤◌, IsTrue, IfOk};
 ghost use Rattle.std.specs.Ordering.{on};
 ghost use Rattle.std.specs.Option.{option_copied};
 ghost use Rattle.lower.specs.TypeViews.{type_view};
@@ -14,7 +14,7 @@ use lower::datatypes::{DataType, is_same_type};
 use lower::types::{days_ms, i256, months_days_ns};
 use lower_flat_arrays::PrimitiveArray;
 use lower_flat_arrays::equality::is_same_column;
-use std::alloc::AllocError;
+use std::alloc::{AllocError, Global};
 use std::fmt;
 
 /// An array of numbers of any type except floats.
@@ -138,6 +138,51 @@ impl AnyPrimitive {
             AnyPrimitive::MonthDayNano(array) => AnyPrimitive::MonthDayNano(array.sliced(
                 offset, len,
             )),
+        }
+    }
+
+    /// Returns the number of bytes that stay allocated as long as the array exists.
+    ///
+    /// See [`Buffer::retained_bytes`](lower::buffer::Buffer::retained_bytes). Memory that several
+    /// of its buffers share counts for each.
+    pub fn retained_bytes(&self) -> usize {
+        match self {
+            AnyPrimitive::Int8(array) => array.retained_bytes(),
+            AnyPrimitive::Int16(array) => array.retained_bytes(),
+            AnyPrimitive::Int32(array) => array.retained_bytes(),
+            AnyPrimitive::Int64(array) => array.retained_bytes(),
+            AnyPrimitive::Int128(array) => array.retained_bytes(),
+            AnyPrimitive::Int256(array) => array.retained_bytes(),
+            AnyPrimitive::UInt8(array) => array.retained_bytes(),
+            AnyPrimitive::UInt16(array) => array.retained_bytes(),
+            AnyPrimitive::UInt32(array) => array.retained_bytes(),
+            AnyPrimitive::UInt64(array) => array.retained_bytes(),
+            AnyPrimitive::DaysMs(array) => array.retained_bytes(),
+            AnyPrimitive::MonthDayNano(array) => array.retained_bytes(),
+        }
+    }
+
+    /// Returns an array of the same slots in memory of its own.
+    ///
+    /// It fails only if an allocation fails.
+    pub fn compact(&self, alloc: Global) -> Result<Self, AllocError>
+        ensures { IfOk result (λ copy. numbers_seen copy ≡ numbers_seen self.now) }
+    {
+        match self {
+            AnyPrimitive::Int8(array) => Ok(AnyPrimitive::Int8(array.compact(alloc)?)),
+            AnyPrimitive::Int16(array) => Ok(AnyPrimitive::Int16(array.compact(alloc)?)),
+            AnyPrimitive::Int32(array) => Ok(AnyPrimitive::Int32(array.compact(alloc)?)),
+            AnyPrimitive::Int64(array) => Ok(AnyPrimitive::Int64(array.compact(alloc)?)),
+            AnyPrimitive::Int128(array) => Ok(AnyPrimitive::Int128(array.compact(alloc)?)),
+            AnyPrimitive::Int256(array) => Ok(AnyPrimitive::Int256(array.compact(alloc)?)),
+            AnyPrimitive::UInt8(array) => Ok(AnyPrimitive::UInt8(array.compact(alloc)?)),
+            AnyPrimitive::UInt16(array) => Ok(AnyPrimitive::UInt16(array.compact(alloc)?)),
+            AnyPrimitive::UInt32(array) => Ok(AnyPrimitive::UInt32(array.compact(alloc)?)),
+            AnyPrimitive::UInt64(array) => Ok(AnyPrimitive::UInt64(array.compact(alloc)?)),
+            AnyPrimitive::DaysMs(array) => Ok(AnyPrimitive::DaysMs(array.compact(alloc)?)),
+            AnyPrimitive::MonthDayNano(array) => Ok(AnyPrimitive::MonthDayNano(array.compact(
+                alloc,
+            )?)),
         }
     }
 }

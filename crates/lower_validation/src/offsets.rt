@@ -1,5 +1,5 @@
 //! The offsets of lists (Arrow columnar format, "Variable-size List Layout").
-ghost use Rattle.std.specs.Prelude.{◌≡◌, ◌+◌, ◌<◌, length, slice_index};
+ghost use Rattle.std.specs.Prelude.{◌≡◌, ◌+◌, ◌<◌, length, slice_index, IfOk};
 ghost use Rattle.lower.specs.Offsets.{IsOffsets};
 ghost use Rattle.lower_flat_arrays.specs.Validities.{part};
 ghost use Rattle.lower_validation.specs.ListTypes.{list_with, last_offset};
@@ -7,7 +7,7 @@ ghost use Rattle.lower_validation.specs.AnyOffsets.{list_places, list_width};
 
 use lower::datatypes::PhysicalType;
 use lower::offset::OffsetsBuffer;
-use std::alloc::AllocError;
+use std::alloc::{AllocError, Global};
 use std::fmt;
 
 /// The offsets of lists, of 32 or 64 bits.
@@ -72,6 +72,26 @@ impl ListOffsets {
         match self {
             ListOffsets::Small(_) => PhysicalType::List,
             ListOffsets::Large(_) => PhysicalType::LargeList,
+        }
+    }
+
+    /// Returns the number of bytes that stay allocated as long as the offsets exist.
+    ///
+    /// See [`Buffer::retained_bytes`](lower::buffer::Buffer::retained_bytes).
+    pub fn retained_bytes(&self) -> usize {
+        match self {
+            ListOffsets::Small(offsets) => offsets.retained_bytes(),
+            ListOffsets::Large(offsets) => offsets.retained_bytes(),
+        }
+    }
+
+    /// Returns the same offsets in memory of their own. It fails only if an allocation fails.
+    pub fn compact(&self, alloc: Global) -> Result<Self, AllocError>
+        ensures { IfOk result (λ copy. copy ≡ self.now) }
+    {
+        match self {
+            ListOffsets::Small(offsets) => Ok(ListOffsets::Small(offsets.compact(alloc)?)),
+            ListOffsets::Large(offsets) => Ok(ListOffsets::Large(offsets.compact(alloc)?)),
         }
     }
 }

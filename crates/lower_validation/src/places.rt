@@ -8,7 +8,7 @@ ghost use Rattle.lower_validation.specs.Places.{OffsetsFit, PlacesGiven, PlacesF
 use crate::children::{Child, have_len};
 use crate::ids::child_number;
 use lower::buffer::Buffer;
-use std::alloc::AllocError;
+use std::alloc::{AllocError, Global};
 
 // Whether an offset is from 0 to below `len`.
 fn is_place(offset: i32, len: usize) -> bool
@@ -85,5 +85,26 @@ pub fn clone_offsets(offsets: &Option<Buffer<i32>>) -> Result<Option<Buffer<i32>
     match offsets {
         None => Ok(None),
         Some(offsets) => Ok(Some(offsets.clone()?)),
+    }
+}
+
+/// Returns the same offsets in memory of their own.
+pub fn compact_offsets(
+    alloc: Global,
+    offsets: &Option<Buffer<i32>>,
+) -> Result<Option<Buffer<i32>>, AllocError>
+    ensures { IfOk result (λ copy. copy ≡ offsets.now) }
+{
+    match offsets {
+        None => Ok(None),
+        Some(offsets) => Ok(Some(offsets.compact(alloc)?)),
+    }
+}
+
+/// Returns the number of bytes that the offsets retain, as [`Buffer::retained_bytes`].
+pub fn offsets_bytes(offsets: &Option<Buffer<i32>>) -> usize {
+    match offsets {
+        None => 0,
+        Some(offsets) => offsets.retained_bytes(),
     }
 }

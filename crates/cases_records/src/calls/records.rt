@@ -1,8 +1,8 @@
 //! The calls of records, in the notation of `records.rt`.
 //!
-//! - `"columns_of": RECORD` gives the chunk that the reader decodes. `"plain_columns_of": RECORD`
-//!   gives `[SLOTS, ..]`, the columns that the plain program decodes, or null where the record is
-//!   invalid.
+//! - `"columns_of": RECORD` gives the chunk that the reader decodes, the same from memory that is
+//!   lent and from memory that is shared. `"plain_columns_of": RECORD` gives `[SLOTS, ..]`, the
+//!   columns that the plain program decodes, or null where the record is invalid.
 //! - `"known_by": RECORD`, with `"shown": [0, ..]` and the message of a dictionary batch, reads the
 //!   batch. It gives `{"answer": "ok", "values": [SLOTS, ..]}`: `"ok"` or the error, and then the
 //!   values of the dictionaries with these ids, null where there are none.
@@ -27,6 +27,7 @@ use cases_notation::types::LEVELS;
 use ipc_base::chunk::Chunk;
 use ipc_devices::fault::Fault;
 use ipc_read::read::Dictionaries;
+use lower::buffer::Buffer;
 use lower_arrays::array::AnyArray;
 use serde_json::Value;
 
@@ -36,10 +37,37 @@ pub fn columns_of(d: &mut Decoder, out: &mut Text, value: &Value) {
     let Some(batch) = d.need(batch_of(&record.message), "record") else {
         return;
     };
-    let read = record.form.read(d, batch, &record.body);
+    let read = record.form.read(d, batch, record.body.as_slice());
+    if !is_read_from_shared_bytes(d, &record, &read) {
+        d.miss("the same columns of shared bytes");
+    }
     if let Some(chunk) = d.take(read) {
         put_chosen(d, out, &record.form, chunk);
     }
+}
+
+// Whether the answer is the same where the columns may share the body's memory.
+fn is_read_from_shared_bytes(
+    d: &mut Decoder,
+    record: &Record,
+    read: &Result<Chunk<AnyArray>, Fault>,
+) -> bool {
+    let Some(batch) = batch_of(&record.message) else {
+        return false;
+    };
+    let Some(body) = shared(d, &record.body) else {
+        return false;
+    };
+    match (read, record.form.read(d, batch, body)) {
+        (Ok(chunk), Ok(other)) => *chunk == other,
+        (Err(fault), Err(other)) => *fault == other,
+        _ => false,
+    }
+}
+
+fn shared(d: &mut Decoder, bytes: &[u8]) -> Option<Buffer<u8>> {
+    let copy = Vec::from_slice(d.alloc(), bytes).ok()?;
+    Buffer::new(copy).ok()
 }
 
 fn put_chosen(d: &mut Decoder, out: &mut Text, form: &RecordForm, read: Chunk<AnyArray>) {

@@ -27,8 +27,8 @@ use ipc_table_views::{DictionaryBatchRef, MetadataVersion, RecordBatchRef};
 use lower::datatypes::{DataType, Field, count_buffers, count_nodes};
 use lower_arrays::array::AnyArray;
 use std::alloc::Global;
-use std::rc::Rc;
 use std::snapshot::Snapshot;
+use std::sync::Arc;
 
 // As `first_dict_field`, in one field of this type. `own` and `ids` are its id and its children's.
 #[cycle(places)]
@@ -268,7 +268,7 @@ pub fn read_dictionary<R: Reads + Seeks>(
         block_offset,
         file_size,
     )?;
-    let values = Rc::new(alloc, values)?;
+    let values = Arc::new(alloc, values)?;
     dictionaries.insert(id, values)?;
     Ok(())
 }

@@ -1,6 +1,6 @@
 //! Reads numbers, bits, bytes and offsets from the buffers of a batch.
 ghost use Rattle.std.specs.Prelude.{◌≡◌, ◌+◌, ◌*◌, ◌-◌, ◌<◌, ◌≤◌, ◌^◌, ◌↔◌, length, take, drop, vec_len, IsTrue, IfOk, IfErr, IfSome, IsNone, MatchBool, min, ℕ, pos, List, [], ◌∷◌, refl};
-ghost use Rattle.ipc_devices.specs.Acts.{ReadsDevice};
+ghost use Rattle.ipc_devices.specs.Acts.{LeavesDevice, ReadsDevice};
 ghost use Rattle.ipc_devices.specs.Device.{after};
 ghost use Rattle.ipc_devices.specs.Faults.{OnIo, OwnFault, Answers};
 ghost use Rattle.ipc_devices.specs.Gives.{going};
@@ -193,6 +193,45 @@ fn read_next_bytes<R: Reads>(alloc: Global, reader: &mut R, count: usize) -> Res
     }
 }
 
+// The next `count` bytes in memory that the device shares. None if it doesn't; nothing is read
+// then.
+fn take_shared<R: Reads>(reader: &mut R, count: usize) -> Option<Buffer<u8>>
+    ensures count { IfSome result (λ b. length b ≡ count) }
+    ensures device { LeavesDevice R.device reader.old reader.new }
+    ensures given { R.device.given reader.new ≤ R.device.given reader.old + count }
+    ensures none { IsNone result → reader.new ≡ reader.old }
+    ensures memory { IsTrue R.device.is_memory → IfSome result (λ b.
+        (count ≤ length (after (R.device.memory reader.old)))
+        × (b ≡ take count (after (R.device.memory reader.old)))) }
+{
+    let shared = reader.share(count);
+    // `given` is called for the proof alone: it states how many bytes `share` read.
+    let _given = reader.given();
+    shared
+}
+
+// The next `count` bytes: shared if the device shares them, else a copy.
+fn read_next_buffer<R: Reads>(
+    alloc: Global,
+    reader: &mut R,
+    count: usize,
+) -> Result<Buffer<u8>, Fault>
+    requires small { count < 2 ^ 63 }
+    ensures count { IfOk result (λ b. length b ≡ count) }
+    ensures only { IfErr result (λ e. OwnFault e (e ≡ Ended)) }
+    ensures device { ReadsDevice R.device reader.old result reader.new
+        × (R.device.given reader.new ≤ R.device.given reader.old + count) }
+    ensures memory { IsTrue R.device.is_memory → Answers result
+        (count ≤ length (after (R.device.memory reader.old)))
+        (λ b. b ≡ take count (after (R.device.memory reader.old))) }
+{
+    if let Some(shared) = take_shared(reader, count) {
+        return Ok(shared);
+    }
+    let bytes = read_next_bytes(alloc, reader, count)?;
+    Ok(Buffer::new(bytes)?)
+}
+
 // Reads `count` numbers, at least one, at `offset` bytes after `base`.
 fn read_numbers_at<T: NativeType, R: Reads + Seeks>(
     alloc: Global,
@@ -229,16 +268,16 @@ fn read_bytes_at<R: Reads + Seeks>(
     base: u64,
     offset: usize,
     count: usize,
-) -> Result<Vec<u8>, Fault>
+) -> Result<Buffer<u8>, Fault>
     requires some { 0 < count }
     requires small { count < 2 ^ 63 }
-    ensures count { IfOk result (λ v. length v.items ≡ count) }
+    ensures count { IfOk result (λ b. length b ≡ count) }
     ensures only { IfErr result (λ e. OwnFault e (e ≡ Ended)) }
     ensures device { ReadsDevice R.device reader.old result reader.new }
     ensures given { R.device.given reader.new ≤ R.device.given reader.old + count }
     ensures memory { IsTrue R.device.is_memory → Answers result
         (count ≤ length (drop (base + offset) (R.device.memory reader.old).whole))
-        (λ v. v.items ≡ take count (drop (base + offset) (R.device.memory reader.old).whole)) }
+        (λ b. b ≡ take count (drop (base + offset) (R.device.memory reader.old).whole)) }
 {
     let Some(place) = base.checked_add(offset as u64) else {
         // for the proof: the end of the device, a `u64`, is before this offset
@@ -246,7 +285,7 @@ fn read_bytes_at<R: Reads + Seeks>(
         return Err(Fault::Ended);
     };
     reader.seek_to(place)?;
-    read_next_bytes(alloc, reader, count)
+    read_next_buffer(alloc, reader, count)
 }
 
 // Whether `count` values of `width` bytes fit into `listed` bytes.
@@ -337,7 +376,7 @@ pub fn fetch_numbers<T: NativeType, R: Reads + Seeks>(
 
 /// Reads the first `count` bytes of the buffer at `index`.
 ///
-/// The errors are those of [`fetch_numbers`].
+/// They are in the device's memory if it shares that. The errors are those of [`fetch_numbers`].
 #[tactic(auto, using(crate::proofs::Refusals::ended_buffer, crate::proofs::Refusals::negative_buffer), unfolding(crate::specs::Bodies::entries))]
 pub fn fetch_bytes<R: Reads + Seeks>(
     alloc: Global,
@@ -345,7 +384,7 @@ pub fn fetch_bytes<R: Reads + Seeks>(
     body: &Body<R>,
     index: usize,
     count: usize,
-) -> Result<Vec<u8>, Fault>
+) -> Result<Buffer<u8>, Fault>
     requires inside { index < length body.now.buffers }
     requires stands { KeepsBytes R.device reader.old body.now }
     ensures only { IfErr result (λ e. OwnFault e (IsBufferFault e)) }
@@ -354,15 +393,15 @@ pub fn fetch_bytes<R: Reads + Seeks>(
     ensures step { Step R.device
         body.now (listed (entries R.device body.now) index) reader.old result reader.new }
     ensures needed { R.device.given reader.new ≤ R.device.given reader.old + count }
-    ensures count { IfOk result (λ v. length v.items ≡ count) }
-    ensures held { IfOk result (λ v. length v.items ≤ listed (entries R.device body.now) index) }
+    ensures count { IfOk result (λ b. length b ≡ count) }
+    ensures held { IfOk result (λ b. length b ≤ listed (entries R.device body.now) index) }
     ensures memory { IsTrue R.device.is_memory → let s = entries R.device body.now in
-        Answers result (Need s index count) (λ v. v.items ≡ take count (bytes s index)) }
+        Answers result (Need s index count) (λ b. b ≡ take count (bytes s index)) }
 {
     let entry = body.buffers.get(index);
     let offset = natural(entry.offset)?;
     if count == 0 {
-        return Ok(Vec::new(alloc));
+        return Ok(Buffer::new(Vec::new(alloc))?);
     }
     let listed = size_of(entry.length);
     if count > listed {
@@ -373,7 +412,7 @@ pub fn fetch_bytes<R: Reads + Seeks>(
 
 /// Reads the first `count` pieces of `width` bytes each of the buffer at `index`.
 ///
-/// The errors are those of [`fetch_numbers`].
+/// As [`fetch_bytes`], also in its errors.
 #[tactic(auto, using(crate::proofs::Refusals::ended_buffer, crate::proofs::Refusals::negative_buffer), unfolding(crate::specs::Bodies::entries))]
 pub fn fetch_pieces<R: Reads + Seeks>(
     alloc: Global,
@@ -382,7 +421,7 @@ pub fn fetch_pieces<R: Reads + Seeks>(
     index: usize,
     width: usize,
     count: usize,
-) -> Result<Vec<u8>, Fault>
+) -> Result<Buffer<u8>, Fault>
     requires some { 0 < width }
     requires inside { index < length body.now.buffers }
     requires stands { KeepsBytes R.device reader.old body.now }
@@ -392,16 +431,16 @@ pub fn fetch_pieces<R: Reads + Seeks>(
     ensures step { Step R.device
         body.now (listed (entries R.device body.now) index) reader.old result reader.new }
     ensures needed { R.device.given reader.new ≤ R.device.given reader.old + width * count }
-    ensures count { IfOk result (λ v. length v.items ≡ width * count) }
-    ensures held { IfOk result (λ v. length v.items ≤ listed (entries R.device body.now) index) }
+    ensures count { IfOk result (λ b. length b ≡ width * count) }
+    ensures held { IfOk result (λ b. length b ≤ listed (entries R.device body.now) index) }
     ensures memory { IsTrue R.device.is_memory → let s = entries R.device body.now in
         Answers result (Need s index (width * count))
-        (λ v. v.items ≡ take (width * count) (bytes s index)) }
+        (λ b. b ≡ take (width * count) (bytes s index)) }
 {
     let entry = body.buffers.get(index);
     let offset = natural(entry.offset)?;
     if count == 0 {
-        return Ok(Vec::new(alloc));
+        return Ok(Buffer::new(Vec::new(alloc))?);
     }
     let listed = size_of(entry.length);
     if !fit(count, width, listed) {
@@ -534,8 +573,7 @@ pub fn read_bits<R: Reads + Seeks>(
         Answers result (Need s index (bytes_for count)) (λ bits. bits ≡ bits_of s index count) }
 {
     check_bits(body, index, count)?;
-    let bytes = fetch_bytes(alloc, reader, body, index, count.div_ceil(8))?;
-    let bits = Buffer::new(bytes)?;
+    let bits = fetch_bytes(alloc, reader, body, index, count.div_ceil(8))?;
     Ok(Bitmap::try_new(bits, count)?)
 }
 

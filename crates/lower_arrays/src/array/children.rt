@@ -55,3 +55,27 @@ pub fn copy_each(alloc: Global, children: &[AnyArray]) -> Result<Vec<AnyArray>, 
     }
     Ok(copies)
 }
+
+/// Returns copies of the children in memory of their own.
+///
+/// It fails only if an allocation fails.
+#[cycle(compacts)]
+pub fn compact_each(alloc: Global, children: &[AnyArray]) -> Result<Vec<AnyArray>, AllocError>
+    ensures { IfOk result (λ copies. map layout_of copies.items ≡ map layout_of children.now) }
+{
+    let mut copies = Vec::new(alloc);
+    for child in children {
+        copies.push(child.compact(alloc)?)?;
+    }
+    Ok(copies)
+}
+
+/// Returns the number of bytes that the children retain.
+#[cycle(retains)]
+pub fn retained_each(children: &[AnyArray]) -> usize {
+    let mut bytes = 0usize;
+    for child in children {
+        bytes = bytes.saturating_add(child.retained_bytes());
+    }
+    bytes
+}

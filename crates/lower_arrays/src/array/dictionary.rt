@@ -17,9 +17,9 @@ use lower::error::Error;
 use lower_validation::fields::is_ordered;
 use lower_validation::keys::DictionaryKeys;
 use lower_validation::rules::check_dictionary;
-use std::alloc::AllocError;
+use std::alloc::{AllocError, Global};
 use std::marker::Model;
-use std::rc::Rc;
+use std::sync::Arc;
 
 /// An array of keys, each the index of a dictionary's value.
 ///
@@ -30,7 +30,7 @@ use std::rc::Rc;
 pub struct DictionaryArray {
     data_type: DataType,
     keys: DictionaryKeys,
-    values: Rc<AnyArray>,
+    values: Arc<AnyArray>,
 }
 
 impl Model for DictionaryArray {
@@ -79,7 +79,7 @@ impl DictionaryArray {
     pub fn try_new(
         data_type: DataType,
         keys: DictionaryKeys,
-        values: Rc<AnyArray>,
+        values: Arc<AnyArray>,
     ) -> Result<Self, Error>
         ensures { let seen = dictionary_seen (type_view data_type) (keys_seen keys) (layout_of values.value) in
             MatchResult result (λ a. (a ≡ seen) × IsDictionary seen) (BreaksDictionary seen) }
@@ -127,7 +127,7 @@ impl DictionaryArray {
     /// Returns another owner of the values.
     ///
     /// It fails only if the count of owners can't grow.
-    pub fn shared_values(&self) -> Result<Rc<AnyArray>, AllocError>
+    pub fn shared_values(&self) -> Result<Arc<AnyArray>, AllocError>
         ensures values { IfOk result (λ values. layout_of values.value ≡ self.now.values) }
         ensures valid { IfOk result (λ values. IsArray (layout_of values.value)) }
     {
@@ -199,6 +199,30 @@ impl DictionaryArray {
             keys: keys.sliced(offset, len),
             values,
         }
+    }
+
+    /// Returns the number of bytes that stay allocated as long as the array exists.
+    ///
+    /// As [`AnyArray::retained_bytes`].
+    #[cycle(retains)]
+    pub fn retained_bytes(&self) -> usize {
+        self.keys
+            .retained_bytes()
+            .saturating_add(self.values.retained_bytes())
+    }
+
+    /// Returns an array of the same slots in memory of its own.
+    ///
+    /// It fails only if an allocation fails.
+    #[cycle(compacts)]
+    pub fn compact(&self, alloc: Global) -> Result<Self, AllocError>
+        ensures { IfOk result (λ copy. copy ≡ self.now) }
+    {
+        Ok(DictionaryArray {
+            data_type: self.data_type.clone()?,
+            keys: self.keys.compact(alloc)?,
+            values: Arc::new(alloc, self.values.compact(alloc)?)?,
+        })
     }
 }
 

@@ -12,10 +12,12 @@ use super::AnyArray;
 use lower::bitmap::Bitmap;
 use lower::datatypes::DataType;
 use lower::error::Error;
-use lower_flat_arrays::validity::{clone_validity, is_valid_at, sliced_validity, unset_bits};
+use lower_flat_arrays::validity::{
+    clone_validity, compact_validity, is_valid_at, sliced_validity, unset_bits, validity_bytes,
+};
 use lower_validation::fields::list_size;
 use lower_validation::rules::check_fixed_list;
-use std::alloc::AllocError;
+use std::alloc::{AllocError, Global};
 use std::marker::Model;
 
 /// An array of lists of one length (Arrow columnar format, "Fixed-Size List Layout").
@@ -181,6 +183,32 @@ impl FixedSizeListArray {
             len: self.len,
             values: Box::new(*Box::allocator(&self.values), self.values.copy()?)?,
             validity: clone_validity(&self.validity)?,
+        })
+    }
+
+    /// Returns the number of bytes that stay allocated as long as the array exists.
+    ///
+    /// As [`AnyArray::retained_bytes`].
+    #[cycle(retains)]
+    pub fn retained_bytes(&self) -> usize {
+        self.values
+            .retained_bytes()
+            .saturating_add(validity_bytes(&self.validity))
+    }
+
+    /// Returns an array of the same slots in memory of its own.
+    ///
+    /// It fails only if an allocation fails.
+    #[cycle(compacts)]
+    pub fn compact(&self, alloc: Global) -> Result<Self, AllocError>
+        ensures { IfOk result (λ copy. copy ≡ self.now) }
+    {
+        Ok(FixedSizeListArray {
+            data_type: self.data_type.clone()?,
+            size: self.size,
+            len: self.len,
+            values: Box::new(alloc, self.values.compact(alloc)?)?,
+            validity: compact_validity(alloc, &self.validity)?,
         })
     }
 }

@@ -13,9 +13,11 @@ use lower::bitmap::Bitmap;
 use lower::datatypes::DataType;
 use lower::error::Error;
 use lower::offset::OffsetsBuffer;
-use lower_flat_arrays::validity::{clone_validity, is_valid_at, sliced_validity, unset_bits};
+use lower_flat_arrays::validity::{
+    clone_validity, compact_validity, is_valid_at, sliced_validity, unset_bits, validity_bytes,
+};
 use lower_validation::rules::check_map;
-use std::alloc::AllocError;
+use std::alloc::{AllocError, Global};
 use std::marker::Model;
 
 /// An array of maps, which are lists of key-value pairs.
@@ -180,6 +182,32 @@ impl MapArray {
             offsets: self.offsets.clone()?,
             field: Box::new(*Box::allocator(&self.field), self.field.copy()?)?,
             validity: clone_validity(&self.validity)?,
+        })
+    }
+
+    /// Returns the number of bytes that stay allocated as long as the array exists.
+    ///
+    /// As [`AnyArray::retained_bytes`].
+    #[cycle(retains)]
+    pub fn retained_bytes(&self) -> usize {
+        self.offsets
+            .retained_bytes()
+            .saturating_add(self.field.retained_bytes())
+            .saturating_add(validity_bytes(&self.validity))
+    }
+
+    /// Returns an array of the same slots in memory of its own.
+    ///
+    /// It fails only if an allocation fails.
+    #[cycle(compacts)]
+    pub fn compact(&self, alloc: Global) -> Result<Self, AllocError>
+        ensures { IfOk result (λ copy. copy ≡ self.now) }
+    {
+        Ok(MapArray {
+            data_type: self.data_type.clone()?,
+            offsets: self.offsets.compact(alloc)?,
+            field: Box::new(alloc, self.field.compact(alloc)?)?,
+            validity: compact_validity(alloc, &self.validity)?,
         })
     }
 }

@@ -8,13 +8,15 @@ ghost use Rattle.lower_arrays.specs.Structs.{struct_seen, struct_layout, cut_str
 ghost use Rattle.lower_arrays.specs.AnyLayouts.{layout_of};
 
 use super::AnyArray;
-use super::children::{copy_each, sliced_each};
+use super::children::{compact_each, copy_each, retained_each, sliced_each};
 use lower::bitmap::Bitmap;
 use lower::datatypes::DataType;
 use lower::error::Error;
-use lower_flat_arrays::validity::{clone_validity, is_valid_at, sliced_validity, unset_bits};
+use lower_flat_arrays::validity::{
+    clone_validity, compact_validity, is_valid_at, sliced_validity, unset_bits, validity_bytes,
+};
 use lower_validation::rules::check_struct;
-use std::alloc::AllocError;
+use std::alloc::{AllocError, Global};
 use std::marker::Model;
 
 /// An array of structs: each slot is one slot of each child.
@@ -167,6 +169,29 @@ impl StructArray {
             len: self.len,
             values: copy_each(*self.values.allocator(), &self.values)?,
             validity: clone_validity(&self.validity)?,
+        })
+    }
+
+    /// Returns the number of bytes that stay allocated as long as the array exists.
+    ///
+    /// As [`AnyArray::retained_bytes`].
+    #[cycle(retains)]
+    pub fn retained_bytes(&self) -> usize {
+        retained_each(&self.values).saturating_add(validity_bytes(&self.validity))
+    }
+
+    /// Returns an array of the same slots in memory of its own.
+    ///
+    /// It fails only if an allocation fails.
+    #[cycle(compacts)]
+    pub fn compact(&self, alloc: Global) -> Result<Self, AllocError>
+        ensures { IfOk result (λ copy. copy ≡ self.now) }
+    {
+        Ok(StructArray {
+            data_type: self.data_type.clone()?,
+            len: self.len,
+            values: compact_each(alloc, &self.values)?,
+            validity: compact_validity(alloc, &self.validity)?,
         })
     }
 }

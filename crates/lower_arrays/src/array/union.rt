@@ -10,15 +10,15 @@ ghost use Rattle.lower_arrays.specs.Unions.{union_seen, IsUnion, BreaksUnion, cu
 ghost use Rattle.lower_arrays.specs.AnyLayouts.{layout_of};
 
 use super::AnyArray;
-use super::children::{copy_each, sliced_each};
+use super::children::{compact_each, copy_each, retained_each, sliced_each};
 use lower::bitmap::Bitmap;
 use lower::buffer::Buffer;
 use lower::datatypes::DataType;
 use lower::error::Error;
 use lower_validation::ids::{child_number, union_ids};
-use lower_validation::places::clone_offsets;
+use lower_validation::places::{clone_offsets, compact_offsets, offsets_bytes};
 use lower_validation::rules::check_union;
-use std::alloc::AllocError;
+use std::alloc::{AllocError, Global};
 use std::marker::Model;
 
 /// An array of unions: each slot is one slot of one child.
@@ -224,6 +224,32 @@ impl UnionArray {
             types: self.types.clone()?,
             fields: copy_each(*self.fields.allocator(), &self.fields)?,
             offsets: clone_offsets(&self.offsets)?,
+        })
+    }
+
+    /// Returns the number of bytes that stay allocated as long as the array exists.
+    ///
+    /// As [`AnyArray::retained_bytes`].
+    #[cycle(retains)]
+    pub fn retained_bytes(&self) -> usize {
+        self.types
+            .retained_bytes()
+            .saturating_add(retained_each(&self.fields))
+            .saturating_add(offsets_bytes(&self.offsets))
+    }
+
+    /// Returns an array of the same slots in memory of its own.
+    ///
+    /// It fails only if an allocation fails.
+    #[cycle(compacts)]
+    pub fn compact(&self, alloc: Global) -> Result<Self, AllocError>
+        ensures { IfOk result (λ copy. copy ≡ self.now) }
+    {
+        Ok(UnionArray {
+            data_type: self.data_type.clone()?,
+            types: self.types.compact(alloc)?,
+            fields: compact_each(alloc, &self.fields)?,
+            offsets: compact_offsets(alloc, &self.offsets)?,
         })
     }
 }

@@ -18,7 +18,6 @@ use crate::read::body::{Body, Place};
 use crate::read::read_basic::{StoredOffset, fetch_bytes, read_head, read_offsets};
 use ipc_devices::fault::Fault;
 use ipc_devices::{Reads, Seeks};
-use lower::buffer::Buffer;
 use lower::datatypes::DataType;
 use lower_arrays::array::BinaryArray;
 use std::alloc::Global;
@@ -64,7 +63,6 @@ pub fn read_binary<O: StoredOffset, R: Reads + Seeks>(
     let index = place.buffer + 1;
     let offsets = read_offsets(alloc, reader, body, index, head.rows)?;
     let values = fetch_bytes(alloc, reader, body, index + 1, offsets.last())?;
-    let values = Buffer::new(values)?;
     let data_type = data_type.clone()?;
     Ok(BinaryArray::try_new(data_type, offsets, values, head.validity)?)
 }

@@ -32,7 +32,7 @@ use lower::datatypes::{DataType, IntegerType, is_same_normal_type};
 use lower_arrays::array::{AnyArray, DictionaryArray};
 use lower_validation::keys::DictionaryKeys;
 use std::alloc::Global;
-use std::rc::Rc;
+use std::sync::Arc;
 
 /// The dictionary values under an id, shared with `body.dictionaries`.
 ///
@@ -47,7 +47,7 @@ pub fn shared_values<R: Failures>(
     value_type: &DataType,
     id: Option<i64>,
     body: &Body<R>,
-) -> Result<Rc<AnyArray>, Fault>
+) -> Result<Arc<AnyArray>, Fault>
     ensures own { OnIo result ⊥ }
     ensures only { IfErr result (λ e. OwnFault e (IsColumnFault e)) }
     ensures tells { IfErr result
@@ -147,7 +147,7 @@ pub fn read_keys<R: Reads + Seeks>(
 pub fn make_dictionary(
     own: &DataType,
     keys: DictionaryKeys,
-    values: Rc<AnyArray>,
+    values: Arc<AnyArray>,
 ) -> Result<AnyArray, Fault>
     ensures own { OnIo result ⊥ }
     ensures only { IfErr result (λ e. OwnFault e (IsRuleFault e)) }

@@ -19,7 +19,6 @@ use crate::read::body::{Body, Place};
 use crate::read::read_basic::{fetch_pieces, read_head};
 use ipc_devices::fault::{Fault, OutOfSpecKind};
 use ipc_devices::{Reads, Seeks};
-use lower::buffer::Buffer;
 use lower::datatypes::DataType;
 use lower_arrays::array::FixedSizeBinaryArray;
 use std::alloc::Global;
@@ -78,7 +77,6 @@ pub fn read_fixed_size_binary<R: Reads + Seeks>(
     }
     let head = read_head(alloc, reader, body, place, limit)?;
     let values = fetch_pieces(alloc, reader, body, place.buffer + 1, size, head.rows)?;
-    let values = Buffer::new(values)?;
     let data_type = data_type.clone()?;
     Ok(FixedSizeBinaryArray::try_new(data_type, values, head.validity)?)
 }

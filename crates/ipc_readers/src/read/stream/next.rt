@@ -25,7 +25,7 @@ use crate::read::stream::metadata::StreamMetadata;
 use crate::read::stream::reader::{Batches, Found, StreamReader, StreamState};
 use ipc_base::chunk::Chunk;
 use ipc_devices::fault::{Fault, OutOfSpecKind};
-use ipc_devices::{MemFile, Reads, read_into};
+use ipc_devices::{Bytes, MemFile, Reads, read_into};
 use ipc_projection::read::chosen::{choose, in_order, rising, shown};
 use ipc_read::read::common::read_record_batch;
 use ipc_read::read::dictionaries::read_dictionary;
@@ -63,7 +63,13 @@ impl StreamState {
 
 impl Batches {
     // The requested columns of a record batch with this body.
-    fn columns(&mut self, batch: RecordBatchRef<'_>, body: &[u8]) -> Result<Chunk<AnyArray>, Fault>
+    fn columns<B: Bytes + Drop>(
+        &mut self,
+        batch: RecordBatchRef<'_>,
+        body: B,
+        size: usize,
+    ) -> Result<Chunk<AnyArray>, Fault>
+        requires { size ≡ length (B.bytes body) }
         ensures described { self.new.metadata ≡ self.old.metadata }
         ensures projected { self.new.projection ≡ self.old.projection }
         ensures counted { OnOk result (self.new.count ≡ 0) }
@@ -72,8 +78,8 @@ impl Batches {
         ensures own { OnIo result ⊥ }
         ensures values { IfOk result (λ chunk. HasKnownValues self.new chunk) }
         ensures held { KeepsArrays (values_in self.old) (values_in self.new) }
-        ensures memory { GivesHeld (request_in self.old) (known_in self.old) 3 batch.entry body.now
-            (of_record result) (known_in self.new) }
+        ensures memory { GivesHeld (request_in self.old) (known_in self.old) 3 batch.entry
+            (B.bytes body) (of_record result) (known_in self.new) }
     {
         let mut bytes = MemFile::new(body);
         let read = read_record_batch(
@@ -87,7 +93,7 @@ impl Batches {
             self.metadata.version,
             &mut bytes,
             0,
-            body.len() as u64,
+            size as u64,
             &mut self.scratch,
         )?;
         let chunk = in_order(self.alloc, &self.projection, read)?;
@@ -96,19 +102,25 @@ impl Batches {
     }
 
     // Replaces the values of an id by those of a dictionary batch, and counts the batch.
-    fn values(&mut self, batch: DictionaryBatchRef<'_>, body: &[u8]) -> Result<(), Fault>
-        requires { self.old.count < most_dictionaries }
+    fn values<B: Bytes + Drop>(
+        &mut self,
+        batch: DictionaryBatchRef<'_>,
+        body: B,
+        size: usize,
+    ) -> Result<(), Fault>
+        requires counted { self.old.count < most_dictionaries }
+        requires size { size ≡ length (B.bytes body) }
         ensures described { self.new.metadata ≡ self.old.metadata }
         ensures projected { self.new.projection ≡ self.old.projection }
         ensures counted { OnOk result (self.new.count ≡ self.old.count + 1) }
         ensures held { KeptOfBatch (request_in self.old)
-            (record { tag = 2; table = batch.entry; body = length body.now })
+            (record { tag = 2; table = batch.entry; body = length (B.bytes body) })
             (of_dictionary result) (values_in self.old) (values_in self.new) }
         ensures kept { OnErr result (AreAt (known_in self.old) (known_in self.new)) }
         ensures only { IfErr result (λ e. OwnFault e (IsStreamFault (request_in self.old) e)) }
         ensures own { OnIo result ⊥ }
-        ensures memory { GivesHeld (request_in self.old) (known_in self.old) 2 batch.entry body.now
-            (of_dictionary result) (known_in self.new) }
+        ensures memory { GivesHeld (request_in self.old) (known_in self.old) 2 batch.entry
+            (B.bytes body) (of_dictionary result) (known_in self.new) }
     {
         let mut bytes = MemFile::new(body);
         read_dictionary(
@@ -120,7 +132,7 @@ impl Batches {
             self.metadata.version,
             &mut bytes,
             0,
-            body.len() as u64,
+            size as u64,
             &mut self.scratch,
         )?;
         self.count += 1;
@@ -129,32 +141,35 @@ impl Batches {
 
     // Reads the batch with this header and body. Returns the chunk of a record batch, or None for a
     // dictionary batch, whose values are recorded.
-    fn read_batch(
+    fn read_batch<B: Bytes + Drop>(
         &mut self,
         header: MessageHeaderRef<'_>,
-        body: &[u8],
+        body: B,
+        size: usize,
     ) -> Result<Option<Chunk<AnyArray>>, Fault>
-        requires { IsAdmitted self.old.count (header_parts header).0 }
+        requires admitted { IsAdmitted self.old.count (header_parts header).0 }
+        requires size { size ≡ length (B.bytes body) }
         ensures described { self.new.metadata ≡ self.old.metadata }
         ensures projected { self.new.projection ≡ self.old.projection }
         ensures counted { IfOk result (λ c. Counted c self.old.count self.new.count) }
         ensures values { IfOk result (λ c. BodyHasValues self.new c) }
         ensures held { let u = header_parts header.entry in
-            KeptOfBatch (request_in self.old) (record { tag = u.0; table = u.1; body = length body.now })
+            KeptOfBatch (request_in self.old)
+            (record { tag = u.0; table = u.1; body = length (B.bytes body) })
             result (values_in self.old) (values_in self.new) }
         ensures kept { OnErr result (AreAt (known_in self.old) (known_in self.new)) }
         ensures only { IfErr result (λ e. OwnFault e (IsStreamFault (request_in self.old) e)) }
         ensures own { OnIo result ⊥ }
         ensures memory { GivesHeld (request_in self.old) (known_in self.old) (header_parts header.entry).0
-            (header_parts header.entry).1 body.now result (known_in self.new) }
+            (header_parts header.entry).1 (B.bytes body) result (known_in self.new) }
     {
         match header {
             MessageHeaderRef::RecordBatch(batch) => {
-                let chunk = self.columns(batch, body)?;
+                let chunk = self.columns(batch, body, size)?;
                 Ok(Some(chunk))
             }
             MessageHeaderRef::DictionaryBatch(batch) => {
-                self.values(batch, body)?;
+                self.values(batch, body, size)?;
                 Ok(None)
             }
             _ => Err(Fault::OutOfSpec(OutOfSpecKind::UnexpectedMessageType)),
@@ -181,7 +196,7 @@ impl Batches {
         }
     }
 
-    // Reads the body of a message. It is borrowed from the device if that can lend it.
+    // Reads the body of a message. The device shares or lends it if it can.
     fn read_body<R: Reads>(
         &mut self,
         message: Message<'_>,
@@ -209,11 +224,14 @@ impl Batches {
             body_length,
         } = message;
         self.check(&header)?;
+        if let Some(shared) = reader.share(body_length) {
+            return self.read_batch(header, shared, body_length);
+        }
         if let Some(shown) = reader.pass(body_length) {
-            return self.read_batch(header, shown);
+            return self.read_batch(header, shown, body_length);
         }
         read_into(reader, body, body_length)?;
-        self.read_batch(header, body.as_slice())
+        self.read_batch(header, body.as_slice(), body_length)
     }
 }
 

@@ -1,4 +1,4 @@
-use Rattle.std.proofs.Common.{◌≡◌, ◌-◌, ◌^◌, min, take, ◌+◌, ◌*◌, ◌<◌, ◌≤◌, Vec, Global, ℕ, rules, arith, ap, sym, subst, ◌∙◌}
+use Rattle.std.proofs.Common.{◌≡◌, ◌-◌, ◌^◌, min, take, ◌+◌, ◌*◌, ◌<◌, ◌≤◌, List, ℕ, rules, arith, ap, sym, subst, ◌∙◌}
 use Rattle.std.proofs.Math.Nat.{mul-pos}
 use Rattle.std.proofs.lemmas.Option.{get_or_from_slice_get}
 use Rattle.ipc_table_views.specs.declared.schema.Buffer.{Buffer}
@@ -22,7 +22,7 @@ returns-clause-memory g c = λ k.
     let natural : IsSize c.get-entry.result.offset = search rules in
     let offset : c.in_ok-offset.offset ≡ size c.get-entry.result.offset = search rules in
     let some : 0 < n = mul-pos c.requires.some (omega arith) in
-    fetched (λ xs (v : Vec ℕ Global). v.items ≡ xs) g.R.Failures.device c.args.body.now c.args.index n
+    fetched (λ xs (v : List ℕ). v ≡ xs) g.R.Failures.device c.args.body.now c.args.index n
     _ _ c.read_bytes_at.result c.requires.inside (subst (λ (e : Buffer). IsSize e.offset) (sym got) natural)
     (ap (λ m. c.args.body.now.base + m) (offset ∙ ap (λ (e : Buffer). size e.offset) (sym got))) long some
     (c.requires.stands (g.met.R.Seeks.known_still k)) (c.read_bytes_at.ensures.memory k)
@@ -34,7 +34,7 @@ returns-clause-tells g c =
     let long : c.args.width * c.args.count ≤ size c.get-entry.result.length = omega (arith, fits, listed) in
     let natural : IsSize c.get-entry.result.offset = search rules in
     ended_fetched g.R.Failures.device c.args.body.now c.args.index c.get-entry.result c.requires.inside c.get-entry.ensures (c.args.width * c.args.count)
-    c.read_bytes_at.result (λ (v : Vec ℕ Global). v.items ≡ take (c.args.width * c.args.count) (bytes (entries g.R.Failures.device c.args.body.now) c.args.index)) natural long c.read_bytes_at.ensures.only (returns-clause-memory g c)
+    c.read_bytes_at.result (λ (v : List ℕ). v ≡ take (c.args.width * c.args.count) (bytes (entries g.R.Failures.device c.args.body.now) c.args.index)) natural long c.read_bytes_at.ensures.only (returns-clause-memory g c)
 
 pub returns-in_err-offset-clause-tells : goal.returns-in_err-offset-clause-tells
 returns-in_err-offset-clause-tells g c =

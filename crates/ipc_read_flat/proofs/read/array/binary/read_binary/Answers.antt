@@ -46,7 +46,7 @@ returns-clause-memory g c = λ k.
     let os = c.in_ok-offsets.offsets in
     let stored = c.in_ok-offsets.ensures.memory k in
     let end : c.last.result ≡ last_offset s (b + 1) w n = last_read s (b + 1) w n c.last.result os stored.1 c.last.ensures.value in
-    let xs = c.in_ok-values.values.items in
+    let xs = c.in_ok-values.values in
     let m = c.in_ok-head.head.validity in
     let read = c.in_ok-values.ensures.memory k in
     let long = c.in_ok-offsets.ensures.count in
@@ -65,6 +65,6 @@ returns-clause-held g c =
     let u = type_view c.args.data_type.now in
     let v = c.in_ok-head.head.validity in
     let os = c.in_ok-offsets.offsets in
-    let xs = c.in_ok-values.values.items in
+    let xs = c.in_ok-values.values in
     let same : c.in_ok-try_new.field-0 ≡ spans_seen u os xs v = search rules in
     bytes_held s extra b u v c.in_ok-head.ensures.held g.O.StoredOffset.form g.O.NativeType.primitive os xs c.in_ok-try_new.field-0 same c.in_ok-offsets.ensures.held c.in_ok-values.ensures.held
