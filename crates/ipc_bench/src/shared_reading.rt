@@ -53,6 +53,39 @@ fn each_kind_is_read_from_shared_bytes(rt: HostRuntime) -> Result<(), Fault> {
     Ok(())
 }
 
+// These bytes in memory that several owners may share, `shift` bytes after its start.
+fn shifted(alloc: Global, bytes: &[u8], shift: usize) -> Result<Buffer<u8>, AllocError> {
+    let mut all = Vec::new(alloc);
+    for _ in 0..shift {
+        all.push(0u8)?;
+    }
+    all.extend_from_slice(bytes)?;
+    let all = Buffer::new(all)?;
+    let first = all.len().saturating_sub(bytes.len());
+    all.part(first, all.len() - first)
+}
+
+// Whether a chunk is read as itself from shared bytes at each alignment from 0 to 15.
+fn is_read_at_each_alignment(alloc: Global, chunk: &Chunk<AnyArray>) -> Result<bool, Fault> {
+    let stream = shared_stream(alloc, chunk)?;
+    for shift in 0..16 {
+        match first_chunk(alloc, shifted(alloc, stream.as_slice(), shift)?)? {
+            Some(read) if read == *chunk => {}
+            _ => return Ok(false),
+        }
+    }
+    Ok(true)
+}
+
+#[test]
+fn shared_bytes_may_have_any_alignment(rt: HostRuntime) -> Result<(), Fault> {
+    let alloc = rt.alloc();
+    for kind in COLUMN_KINDS {
+        assert!(rt; is_read_at_each_alignment(alloc, &chunk_of_kind(alloc, kind)?)?);
+    }
+    Ok(())
+}
+
 // The texts of a chunk of one column.
 fn chunk_of_texts(alloc: Global) -> Result<Chunk<AnyArray>, Fault> {
     Chunk::try_new(vec![in alloc; AnyArray::from(texts(alloc)?)]?)
