@@ -13,10 +13,13 @@
 //! - `block`: reads one column of the last block of a file.
 //!
 //! Writing is compared with a copy into memory that is reused, reading with one into fresh memory.
+//! Of shared texts it also prints how long checking them and copying their offsets takes, which
+//! reading them includes.
 //! Without three or four numbers it does nothing; unknown words are ignored.
 #![tactic(auto)]
 
 mod asked;
+mod checked;
 mod columns;
 mod files;
 mod streams;
@@ -24,6 +27,8 @@ mod tables;
 mod times;
 
 use crate::asked::{Asked, Measured, Size, read_words};
+use crate::checked::best_checked;
+use crate::columns::Kind;
 use crate::tables::{Table, make_table};
 use crate::times::{best_of, print};
 use ipc_devices::Fault;
@@ -44,6 +49,10 @@ fn run<R: Runtime>(rt: &R, alloc: Global, table: &Table, asked: &Asked) -> Resul
     )?;
     print(rt, "read", best.read, best.copy, bytes)?;
     print(rt, "copy into fresh memory", best.copy, best.copy, bytes)?;
+    if let (Measured::Shared, Kind::Utf8) = (asked.measured, asked.kind) {
+        let checked = best_checked(rt, alloc, table, asked.rounds)?;
+        print(rt, "check texts, copy offsets", checked, best.copy, bytes)?;
+    }
     Ok(())
 }
 
