@@ -1,0 +1,6 @@
+mod Halves
+mod Joined
+mod Kept
+mod MapTexts
+mod Maps
+mod Steps

@@ -1,0 +1,4 @@
+pub mod FloatBits
+pub mod Columns
+pub mod Halves
+pub mod Texts
