@@ -1,0 +1,10 @@
+pub mod BitPushes
+pub mod Slots
+pub mod OffsetPushes
+pub mod Lengths
+pub mod Rules
+pub mod SpanPushes
+pub mod TextPushes
+pub mod FixedPushes
+pub mod Errors
+pub mod SlotRuns

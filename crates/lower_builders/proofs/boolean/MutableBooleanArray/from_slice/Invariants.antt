@@ -1,0 +1,6 @@
+use Rattle.std.proofs.Common.{◌≡◌, take, map}
+use Rattle.std.specs.Prelude.{Some}
+use Rattle.lower_builders.proofs.boolean.MutableBooleanArray.from_slice.Given as goal
+
+abbrev pub invariant-loop-value : goal.invariant-loop-value
+invariant-loop-value l = l.array ≡ map Some (take l.value-index l.values)

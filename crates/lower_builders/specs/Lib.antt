@@ -1,0 +1,5 @@
+pub mod Pushes
+pub mod Validity
+pub mod Growing
+pub mod Bytes
+pub mod FixedBytes
