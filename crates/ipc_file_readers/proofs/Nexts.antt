@@ -8,8 +8,7 @@ use Rattle.ipc_devices.specs.Device.{Device, IsAnswered, Rises}
 use Rattle.ipc_devices.specs.Faults.{IfIo, OnIo, UnlessIo, OwnFault}
 use Rattle.ipc_devices.specs.declared.fault.Fault.{Fault}
 use Rattle.ipc_devices.specs.declared.fault.Fault.TheVariants as faults
-use Rattle.std.specs.Prelude.{Vec, slice_get}
-use Rattle.std.specs.declared.alloc.Global.{Global}
+use Rattle.std.specs.Prelude.{slice_get}
 use Rattle.ipc_model.specs.Batches.{kinds}
 use Rattle.ipc_model.specs.Entries.{Dictionaries, Limit}
 use Rattle.ipc_model.specs.Files.{file_chunk}
@@ -21,10 +20,6 @@ use Rattle.ipc_files.specs.declared.read.file.metadata.FileMetadata.{FileMetadat
 use Rattle.ipc_file_readers.specs.Readers.{HasNext, HoldValues, NextStep, WasNext, asked_of, block_of, columns_asked, device_of, file_of, is_over, known_of, less, message_of, metadata_of, next_result, remaining_of, rows_given, values_of}
 use Rattle.ipc_file_readers.specs.Steps.{DictionariesGave, NextGave, WasChunk}
 use Rattle.ipc_file_readers.specs.declared.read.reader.state.FileReader.{FileReader}
-
--- The scratch memory for data and for messages.
-abbrev Rooms : Type 0
-Rooms = Vec ℕ Global × Vec ℕ Global
 
 rises_from : (a b c : ℕ) → a ≤ b → Rises b c → Rises a c
 rises_from a b c h r = omega (arith, h, r)
@@ -123,7 +118,7 @@ module _ {R : Type 0} (d : Device R) (stays : IsTrue d.is_memory → IsTrue d.is
         asked = second.file.asked ∙ first.file.asked;
         shown = second.file.shown ∙ first.file.shown;
       };
-      room = second.room ∙ ap (λ (p : Rooms). p.0) first.rooms;
+      room = omega (arith, second.room, first.room);
       unread = λ _ none. let no : None ≡ Some first.are.0 = sym none ∙ second.held ∙ first.are.1 in absurd cc;
     };
   }

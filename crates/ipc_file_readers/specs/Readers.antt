@@ -1,6 +1,6 @@
 -- The state of a file reader, and what `next` returns.
 -- (Arrow columnar format, "IPC File Format".)
-use Rattle.std.specs.Prelude.{◌≡◌, ◌≢◌, ◌⊎◌, ℕ, ℤ, ◌+◌, ◌-◌, ◌≤◌, nat_le, Bool, true, false, IsTrue, IfOk, IfErr, OnOk, List, [], map, length, Option, None, Some, option_map, slice_get, Result, Ok, Err, vec_len, Vec}
+use Rattle.std.specs.Prelude.{◌≡◌, ◌≢◌, ◌⊎◌, ℕ, ℤ, ◌+◌, ◌-◌, ◌≤◌, ◌==◌, if◌then◌else◌, nat_le, Bool, true, false, IsTrue, IfOk, IfErr, OnOk, List, [], map, length, Option, None, Some, option_map, slice_get, Result, Ok, Err, vec_len, Vec}
 use Rattle.std.specs.HashMap.{HashMap}
 use Rattle.std.specs.declared.alloc.Global.{Global}
 use Rattle.std.specs.declared.sync.Arc.{Arc}
@@ -12,13 +12,14 @@ use Rattle.ipc_base.specs.Chunks.{row_count}
 use Rattle.ipc_devices.specs.Device.{Device}
 use Rattle.ipc_devices.specs.Faults.{OwnFault}
 use Rattle.ipc_devices.specs.declared.fault.Fault.{Fault}
-use Rattle.ipc_model.specs.Batches.{kinds, chosen}
+use Rattle.ipc_model.specs.Batches.{IsProjection, kinds, chosen}
 use Rattle.ipc_model.specs.Entries.{Dictionaries, Limit}
 use Rattle.ipc_model.specs.Files.{FileMetadata as Meaning, file_dictionaries, file_chunk}
 use Rattle.ipc_model.specs.ReadChunks.{HaveMeaning}
 use Rattle.ipc_base.specs.IdTrees.{all_ids_view}
 use Rattle.ipc_stream_lemmas.specs.Agreement.{AreAlike, KnowAlike}
 use Rattle.ipc_read_flat.specs.Bodies.{array_under, known_dictionaries, no_values}
+use Rattle.ipc_read_flat.specs.Scratches.{KeepsScratch}
 use Rattle.ipc_projection.specs.ChosenColumns.{ShowsColumns, asked_by, shown_by}
 use Rattle.ipc_read.specs.Chunks.{chunk_seen}
 use Rattle.ipc_files.specs.Batches.{HoldBatch, IsRecordFault, RecordReason, block_metadata, needed_bytes}
@@ -68,6 +69,16 @@ block_of x = x.current_block
 abbrev pub remaining_of : {R : Type 0} → FileReader R → Limit
 remaining_of x = x.remaining
 
+-- The block before block i, once the dictionaries are known.
+abbrev pub block_before : Option Dictionaries → ℕ → Option ℕ
+block_before None i = None
+block_before (Some ds) i = if i == 0 then None else Some (i - 1)
+
+-- The block that the last item came from: none before the first, or if that was the error of the
+-- dictionaries.
+abbrev pub item_block : {R : Type 0} → FileReader R → Option ℕ
+item_block x = block_before (known_of x) (block_of x)
+
 -- Whether the reader is after the last block: `next` returns None from now on.
 abbrev pub is_over : {R : Type 0} → FileReader R → Bool
 is_over x = nat_le (vec_len x.metadata.blocks) x.current_block
@@ -102,6 +113,13 @@ pub record IsUnread {R : Type 0} (reader : R) (metadata : FileMetadata) (asked :
   pub block : block_of x ≡ 0
   pub remaining : remaining_of x ≡ limit
   pub rooms : ((scratches_of x).0.items ≡ []) × ((scratches_of x).1.items ≡ [])
+
+-- `FileReader::try_new`: a reader exactly if each requested column is one of the file's, and none
+-- is requested twice.
+abbrev pub TriesFile : {R : Type 0} → R → FileMetadata → Option (List ℕ) → Limit → Option (FileReader R) → Type 0
+TriesFile reader metadata asked limit None = IsProjection asked (length metadata.schema.fields.items) → ⊥
+TriesFile reader metadata asked limit (Some x) =
+    IsProjection asked (length metadata.schema.fields.items) × IsUnread reader metadata asked limit x
 
 -- Two states of a reader have the same file, projection and schema.
 pub record IsOfSameFile {R : Type 0} (a b : FileReader R) : Type 0 where
@@ -200,10 +218,10 @@ HasNext d a None b = ⊥
 HasNext d a (Some (Ok xs)) b = WasNext d a (Ok xs) b
 HasNext d a (Some (Err e)) b = WereRefused d a e b ⊎ WasNext d a (Err e) b
 
--- No block was read: the scratch memory and the row limit are as they were. The bytes read are
--- those that the dictionaries need before the refused one, and those read of that.
+-- No block was read: the scratch memory for messages and the row limit are as they were. The bytes
+-- read are those that the dictionaries need before the refused one, and those read of that.
 pub record AskedNoBlock {R : Type 0} (d : Device R) (a b : FileReader R) : Type 0 where
-  pub rooms : scratches_of b ≡ scratches_of a
+  pub message : (scratches_of b).1 ≡ (scratches_of a).1
   pub remaining : remaining_of b ≡ remaining_of a
   pub bytes : RefusedValues d.is_memory (file_of a).schema (d.memory (device_of a)).whole (file_of a).dictionaries (d.given (device_of a)) (d.given (device_of b))
 
@@ -211,8 +229,8 @@ pub record AskedNoBlock {R : Type 0} (d : Device R) (a b : FileReader R) : Type 
 pub record FileReaderState {R : Type 0} (d : Device R) (a b : FileReader R) : Type 0 where
   -- The file, the projection and the schema stay.
   pub file : IsOfSameFile a b
-  -- The scratch memory for data stays.
-  pub room : (scratches_of b).0 ≡ (scratches_of a).0
+  -- The scratch memory for data has at most 65,536 bytes, or at most as many as before.
+  pub room : KeepsScratch (scratches_of a).0.items (scratches_of b).0.items
   -- Until the dictionaries are known, no block is read.
   pub unread : is_over a ≡ false → known_of b ≡ None → AskedNoBlock d a b
 

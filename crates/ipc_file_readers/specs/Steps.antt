@@ -10,6 +10,7 @@ use Rattle.ipc_model.specs.Entries.{Dictionaries, Limit}
 use Rattle.ipc_model.specs.Files.{file_dictionaries, file_chunk}
 use Rattle.ipc_stream_lemmas.specs.Agreement.{KnowAlike}
 use Rattle.ipc_read.specs.Chunks.{chunk_seen}
+use Rattle.ipc_read_flat.specs.Scratches.{KeepsScratch}
 use Rattle.ipc_files.specs.Batches.{HoldBatch, IsRecordFault, RecordReason, block_metadata, needed_bytes}
 use Rattle.ipc_files.specs.Dictionaries.{DictionariesReason, IsDictionaryBlockFault, ValuesTaken}
 use Rattle.ipc_files.specs.Footers.{GivesPart, file_seen}
@@ -28,12 +29,13 @@ pub record WasAsked {R X : Type 0} (d : Device R) (a : FileReader R) (r : Result
   pub answered : IfIo r (IsAnswered d)
 
 -- The dictionaries are known; or they were refused, also by an allocation or the device, and the
--- reader differs in its device alone.
+-- reader differs in its device and its scratch memory for data alone.
 pub record DictionariesGave {R : Type 0} (d : Device R) (a : FileReader R) (r : Result Unit Fault) (b : FileReader R) : Type 0 where
   pub file : IsOfSameFile a b
   pub block : block_of b ≡ block_of a
   pub remaining : remaining_of b ≡ remaining_of a
-  pub rooms : scratches_of b ≡ scratches_of a
+  pub room : KeepsScratch (scratches_of a).0.items (scratches_of b).0.items
+  pub message : (scratches_of b).1 ≡ (scratches_of a).1
   pub asked : WasAsked d a r b
   pub are : IfOk r (λ _. (ds : Dictionaries) × (known_of b ≡ Some ds)
       × AreKnown d.is_memory (known_of a) (file_dictionaries (file_of a) (d.memory (device_of a)).whole) ds)
@@ -67,7 +69,7 @@ pub record BlockGave {R : Type 0} (d : Device R) (i : ℕ) (a : FileReader R) (r
   pub remaining : remaining_of b ≡ remaining_of a
   pub held : known_of b ≡ known_of a
   pub values : values_of b ≡ values_of a
-  pub room : (scratches_of b).0 ≡ (scratches_of a).0
+  pub room : KeepsScratch (scratches_of a).0.items (scratches_of b).0.items
   pub asked : WasAsked d a r b
   pub chunk : (ds : Dictionaries) → known_of a ≡ Some ds
       → WasChunk d.is_memory (metadata_of a) (asked_of a) (remaining_of a) i ds (d.memory (device_of a)).whole (d.given (device_of a)) (d.given (device_of b)) (message_of b) r
@@ -81,7 +83,7 @@ pub record NextGave {R : Type 0} (d : Device R) (a : FileReader R) (r : Result (
   pub remaining : remaining_of b ≡ less (remaining_of a) (rows_given r)
   pub held : known_of b ≡ known_of a
   pub values : values_of b ≡ values_of a
-  pub room : (scratches_of b).0 ≡ (scratches_of a).0
+  pub room : KeepsScratch (scratches_of a).0.items (scratches_of b).0.items
   pub asked : WasAsked d a r b
   pub chunk : (ds : Dictionaries) → known_of a ≡ Some ds
       → WasChunk d.is_memory (metadata_of a) (asked_of a) (remaining_of a) (block_of a) ds (d.memory (device_of a)).whole (d.given (device_of a)) (d.given (device_of b)) (message_of b) r

@@ -16,7 +16,7 @@ use ipc_base::chunk::Chunk;
 use ipc_devices::{Fault, MemFile, Reads, Seeks};
 use ipc_file_readers::read::reader::FileReader;
 use ipc_files::read::file::{FileMetadata, read_file_metadata};
-use ipc_projection::read::projection::is_projection;
+use ipc_projection::read::projection::are_there;
 use lower_arrays::array::AnyArray;
 use std::alloc::Global;
 
@@ -123,16 +123,6 @@ pub fn read_file(alloc: Global, bytes: &[u8]) -> Result<WholeFile, Fault>
 {
     let metadata = read_metadata(alloc, bytes)?;
     read_by(alloc, bytes, metadata, None, None)
-}
-
-// Whether the requested columns are among `count`, each requested once.
-fn are_there(projection: &Option<Vec<usize>>, count: usize) -> bool
-    ensures { IsTrue result ↔ IsProjection (items_of projection.now) count }
-{
-    match projection {
-        Some(asked) => is_projection(asked, count),
-        None => true,
-    }
 }
 
 /// Reads some columns and rows of a file in memory.

@@ -166,6 +166,13 @@ impl<W: Writes + Drop> FileWriter<W> {
         &self.schema
     }
 
+    /// The device, as it is.
+    pub fn get_ref(&self) -> &W
+        ensures { result.now ≡ (seen self.now).device }
+    {
+        &self.writer
+    }
+
     /// The device.
     pub fn into_inner(self) -> W
         ensures { result ≡ (seen self).device }

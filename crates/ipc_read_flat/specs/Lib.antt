@@ -7,3 +7,4 @@ pub mod FlatKinds
 pub mod Limits
 pub mod KeyLevels
 pub mod HeldListed
+pub mod Scratches

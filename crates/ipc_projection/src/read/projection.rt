@@ -10,6 +10,7 @@ ghost use Rattle.ipc_model.specs.Batches.{IsProjection};
 ghost use Rattle.ipc_projection.specs.Projections.{IsIncreasing, IsPrepared, IsReordering, AreReordered, PreparedLaw};
 ghost use Rattle.ipc_projection.specs.Placing.{Placing};
 ghost use Rattle.ipc_projection.specs.Steps.{HasFirstKeys, HasPlaces, IsApart, IsPlace};
+ghost use Rattle.ipc_projection.specs.ChosenColumns.{items_of};
 
 use crate::fault::Fault;
 use ipc_base::chunk::{Chunk, Rows};
@@ -39,6 +40,16 @@ pub fn is_projection(projection: &[usize], columns: usize) -> bool
         rest = others;
     }
     true
+}
+
+/// Returns whether the requested columns are a projection, or all columns are requested.
+pub fn are_there(projection: &Option<Vec<usize>>, columns: usize) -> bool
+    ensures { IsTrue result ↔ IsProjection (items_of projection.now) columns }
+{
+    match projection {
+        Some(asked) => is_projection(asked, columns),
+        None => true,
+    }
 }
 
 /// Returns whether the indices are below `columns` and strictly ascending.

@@ -12,6 +12,7 @@ ghost use Rattle.ipc_model.specs.Kinds.{all_nodes, all_buffers};
 ghost use Rattle.ipc_model.specs.TypeKinds.{kinds_of};
 ghost use Rattle.ipc_read_flat.specs.Limits.{AreSmall};
 ghost use Rattle.ipc_read_flat.specs.Refusals.{TellsEntries};
+ghost use Rattle.ipc_read_flat.specs.Scratches.{KeepsScratch};
 ghost use Rattle.ipc_read_flat.specs.Bodies.{KeepsBytes, HasRoom, entries, known};
 ghost use Rattle.ipc_read_flat.specs.Steps.{Step};
 ghost use Rattle.ipc_read.specs.Api.{ReadsRecordBatch, batch_request};
@@ -172,6 +173,7 @@ fn skip(data_type: &DataType, extra: usize, place: Place) -> Place
 ///   column is read or checked.
 /// - `limit`: reads at most this many rows of each column; None reads all.
 /// - `body`: the entries of all fields must be present.
+/// - `scratch`: a block that they are read through, as [`read`] says.
 ///
 /// See "RecordBatch message" in the Arrow columnar format. The errors are those of [`read`], for a
 /// column that is chosen.
@@ -183,6 +185,7 @@ pub fn read_columns<R: Reads + Seeks>(
     limit: Option<usize>,
     reader: &mut R,
     body: &Body<R>,
+    scratch: &mut Vec<u8>,
 ) -> Result<Vec<AnyArray>, Fault>
     requires prepared { ArePrepared (option_copied projection) (length fields.now) }
     requires room { let ts = kinds_of (fields_view fields.now) (all_ids_view ids.now) in
@@ -207,6 +210,7 @@ pub fn read_columns<R: Reads + Seeks>(
         let ts = kinds_of (fields_view fields.now) (all_ids_view ids.now) in
         Answers result (HasColumns s ts limit js)
         (λ v. AreColumns s (known body.now) (fields_view fields.now) ts limit js v.items) }
+    ensures scratch { KeepsScratch scratch.old.items scratch.new.items }
 {
     let wanted = match projection {
         None => fields.len(),
@@ -231,6 +235,7 @@ pub fn read_columns<R: Reads + Seeks>(
             body,
             place,
             limit,
+            scratch,
         )?;
         columns.push(column)?;
         place = next;
@@ -249,7 +254,9 @@ pub fn read_columns<R: Reads + Seeks>(
 /// - `version`: of the message. Before version 5 a union has a validity buffer, which is skipped.
 /// - `block_offset`: the offset of the body on the device, in bytes.
 /// - `file_size`: how many bytes the buffers may have together: the length of the body or the file.
-/// - `_scratch`: isn't used.
+/// - `scratch`: a block that columns are read through, as [`read`] says. Its content is unspecified
+///   afterwards. It gets no longer than 65,536 bytes, and no longer at all if the device lends its
+///   bytes.
 ///
 /// See "RecordBatch message" in the Arrow columnar format. When reading from memory, it is `Ok`
 /// exactly if the batch is valid by these, unless an allocation fails. At each dictionary field,
@@ -291,14 +298,14 @@ pub fn read_record_batch<R: Reads + Seeks>(
     reader: &mut R,
     block_offset: u64,
     file_size: u64,
-    _scratch: &mut Vec<u8>,
+    scratch: &mut Vec<u8>,
 ) -> Result<Chunk<AnyArray>, Fault>
     requires prepared { ArePrepared (option_copied projection) (length fields.now) }
     ensures batch { let js = option_copied projection.entry in
         let q = batch_request fields.now ipc_schema.now dictionaries.now version block_offset
         file_size batch.entry js limit in
         ReadsRecordBatch R.device q reader.old result reader.new }
-    ensures idle { _scratch.new ≡ _scratch.old }
+    ensures scratch { KeepsScratch scratch.old.items scratch.new.items }
 {
     let (nodes, buffers) = entries_of(&batch)?;
     check_lengths(&buffers, file_size)?;
@@ -314,6 +321,8 @@ pub fn read_record_batch<R: Reads + Seeks>(
         device: Snapshot::of(&*reader),
     };
     let ids = ipc_schema.fields.as_slice();
-    let columns = read_columns(alloc, fields, ids, projection, limit, reader, &body)?;
+    let columns = read_columns(
+        alloc, fields, ids, projection, limit, reader, &body, scratch,
+    )?;
     Chunk::try_new(columns)
 }

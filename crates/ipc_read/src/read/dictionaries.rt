@@ -8,6 +8,7 @@ ghost use Rattle.ipc_base.specs.IdTrees.{all_ids_view};
 ghost use Rattle.ipc_model.specs.Batches.{kinds, extra_of, lists_of, own_place, inner_places, places, place_of, values_schema};
 ghost use Rattle.ipc_model.specs.TypeKinds.{kind_of};
 ghost use Rattle.ipc_read_flat.specs.Bodies.{known_dictionaries};
+ghost use Rattle.ipc_read_flat.specs.Scratches.{KeepsScratch};
 ghost use Rattle.ipc_read.specs.Api.{ReadsDictionary, dictionary_request};
 ghost use Rattle.ipc_read.specs.Chunks.{order_of};
 ghost use Rattle.ipc_read.specs.DictionaryBatches.{GivesColumn, dictionary_head, IsHeadFault, IsValuesFault, RefusesHead};
@@ -127,6 +128,7 @@ fn read_values<R: Reads + Seeks>(
     reader: &mut R,
     block_offset: u64,
     file_size: u64,
+    scratch: &mut Vec<u8>,
 ) -> Result<AnyArray, Fault>
     ensures only { IfErr result (λ e. OwnFault e (IsValuesFault (kind_of (type_view value_type.now) None (all_ids_view ids.now)) e)) }
     ensures lists { let t = type_view value_type.now in IfErr result (TellsLists batch.entry file_size (nodes t) (buffers (extra_of version) t)) }
@@ -149,6 +151,7 @@ fn read_values<R: Reads + Seeks>(
         (record
         { source = (R.device.memory reader.old).whole; base = block_offset; size = file_size })
         batch.entry u result }
+    ensures scratch { KeepsScratch scratch.old.items scratch.new.items }
 {
     let (nodes, buffers) = entries_of(&batch)?;
     check_lengths(&buffers, file_size)?;
@@ -164,7 +167,9 @@ fn read_values<R: Reads + Seeks>(
         device: Snapshot::of(&*reader),
     };
     let first = Place { node: 0, buffer: 0 };
-    let (values, _) = read(alloc, value_type, None, ids, reader, &body, first, None)?;
+    let (values, _) = read(
+        alloc, value_type, None, ids, reader, &body, first, None, scratch,
+    )?;
     Ok(values)
 }
 
@@ -198,7 +203,9 @@ fn head_of<'a>(batch: &DictionaryBatchRef<'a>) -> Result<(i64, RecordBatchRef<'a
 /// - `version`: of the message. Before version 5 a union has a validity buffer, which is skipped.
 /// - `block_offset`: the offset of the body on the device, in bytes.
 /// - `file_size`: how many bytes the buffers may have together: the length of the body or the file.
-/// - `_scratch`: isn't used.
+/// - `scratch`: a block that the values are read through, as [`read`] says. Its content is
+///   unspecified afterwards. It gets no longer than 65,536 bytes, and no longer at all if the
+///   device lends its bytes.
 ///
 /// See "Dictionary messages" in the Arrow columnar format. The values have the type of the first
 /// field with this id, in pre-order. When reading from memory, it is `Ok` exactly if the batch is
@@ -241,13 +248,13 @@ pub fn read_dictionary<R: Reads + Seeks>(
     reader: &mut R,
     block_offset: u64,
     file_size: u64,
-    _scratch: &mut Vec<u8>,
+    scratch: &mut Vec<u8>,
 ) -> Result<(), Fault>
     ensures dictionary { let q = dictionary_request fields.now ipc_schema.now version block_offset
         file_size batch.entry in
         ReadsDictionary R.device q reader.old dictionaries.old result reader.new
         dictionaries.new }
-    ensures idle { _scratch.new ≡ _scratch.old }
+    ensures scratch { KeepsScratch scratch.old.items scratch.new.items }
 {
     let (id, values) = head_of(&batch)?;
     let schema_ids = ipc_schema.fields.as_slice();
@@ -267,6 +274,7 @@ pub fn read_dictionary<R: Reads + Seeks>(
         reader,
         block_offset,
         file_size,
+        scratch,
     )?;
     let values = Arc::new(alloc, values)?;
     dictionaries.insert(id, values)?;

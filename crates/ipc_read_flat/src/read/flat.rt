@@ -39,6 +39,7 @@ pub fn read_flat<R: Reads + Seeks>(
     body: &Body<R>,
     place: Place,
     limit: Option<usize>,
+    scratch: &mut Vec<u8>,
 ) -> Result<AnyArray, Fault>
     requires lies { physical (type_view data_type.now) ≡ physical_type }
     requires flat { IsFlat physical_type }
@@ -68,7 +69,7 @@ pub fn read_flat<R: Reads + Seeks>(
         }
         PhysicalType::Primitive(primitive) => {
             let array = read_any_primitive(
-                alloc, primitive, data_type, reader, body, place, limit,
+                alloc, primitive, data_type, reader, body, place, limit, scratch,
             )?;
             Ok(AnyArray::Primitive(array))
         }
@@ -78,19 +79,19 @@ pub fn read_flat<R: Reads + Seeks>(
             Ok(AnyArray::FixedSizeBinary(array))
         }
         PhysicalType::Binary => {
-            let array = read_binary(alloc, data_type, reader, body, place, limit)?;
+            let array = read_binary(alloc, data_type, reader, body, place, limit, scratch)?;
             Ok(AnyArray::Binary(array))
         }
         PhysicalType::LargeBinary => {
-            let array = read_binary(alloc, data_type, reader, body, place, limit)?;
+            let array = read_binary(alloc, data_type, reader, body, place, limit, scratch)?;
             Ok(AnyArray::LargeBinary(array))
         }
         PhysicalType::Utf8 => {
-            let array = read_utf8(alloc, data_type, reader, body, place, limit)?;
+            let array = read_utf8(alloc, data_type, reader, body, place, limit, scratch)?;
             Ok(AnyArray::Utf8(array))
         }
         PhysicalType::LargeUtf8 => {
-            let array = read_utf8(alloc, data_type, reader, body, place, limit)?;
+            let array = read_utf8(alloc, data_type, reader, body, place, limit, scratch)?;
             Ok(AnyArray::LargeUtf8(array))
         }
         PhysicalType::List

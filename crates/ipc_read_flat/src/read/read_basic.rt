@@ -29,8 +29,11 @@ use lower::offset::{Offset, OffsetsBuffer};
 use lower::types::{Endianness, NativeType, PrimitiveType};
 use std::alloc::Global;
 
-// How many bytes are read from the device at once.
-const BLOCK: usize = 4096;
+/// The most bytes that numbers are read by at once, and that scratch memory is lengthened to.
+pub const BLOCK: usize = 65_536;
+
+// The bytes that numbers are read by at once without scratch memory.
+const SMALL_BLOCK: usize = 4096;
 
 /// A length or an offset as a `usize`; `NegativeFooterLength` if it is negative.
 pub fn natural(number: i64) -> Result<usize, Fault>
@@ -54,14 +57,19 @@ fn size_of(number: i64) -> usize
 
 /// Reads the next `count` numbers, whose bytes have the order `order`.
 ///
-/// If the device can lend the bytes, they are converted directly, else through a block of 4,096
-/// bytes. Then the vector grows as they come, as the device may not have all that is stated. The
-/// errors are `Ended` if there are fewer, `Io` and `Memory`.
+/// If the device can lend the bytes, they are converted directly, else through a block. Then the
+/// vector grows as they come, as the device may not have all that is stated.
+///
+/// - `scratch`: the block, if the numbers have more than 4,096 bytes. It's lengthened to these, but
+///   to at most 65,536 bytes. If that memory is refused, 4,096 bytes on the stack serve.
+///
+/// The errors are `Ended` if there are fewer numbers, `Io` and `Memory`.
 pub fn read_numbers<T: NativeType, R: Reads>(
     alloc: Global,
     reader: &mut R,
     count: usize,
     order: Endianness,
+    scratch: &mut Vec<u8>,
 ) -> Result<Vec<T>, Fault>
     ensures count { IfOk result (λ v. vec_len v ≡ count) }
     ensures only { IfErr result (λ e. OwnFault e (e ≡ Ended)) }
@@ -75,7 +83,7 @@ pub fn read_numbers<T: NativeType, R: Reads>(
 {
     match take_shown(alloc, reader, count, order)? {
         Some(numbers) => Ok(numbers),
-        None => read_pieces(alloc, reader, count, order),
+        None => read_by_block(alloc, reader, count, order, scratch),
     }
 }
 
@@ -115,13 +123,15 @@ fn take_shown<T: NativeType, R: Reads>(
     Ok(Some(numbers))
 }
 
-// The next `count` numbers, block by block.
-#[tactic(auto, using(crate::proofs::Pieces::reading))]
-fn read_pieces<T: NativeType, R: Reads>(
+// The next `count` numbers, through scratch memory, or through a small block if they are few.
+//
+// Without memory for a longer block the small one serves, so no read fails for want of it.
+fn read_by_block<T: NativeType, R: Reads>(
     alloc: Global,
     reader: &mut R,
     count: usize,
     order: Endianness,
+    scratch: &mut Vec<u8>,
 ) -> Result<Vec<T>, Fault>
     ensures count { IfOk result (λ v. vec_len v ≡ count) }
     ensures only { IfErr result (λ e. OwnFault e (e ≡ Ended)) }
@@ -133,10 +143,45 @@ fn read_pieces<T: NativeType, R: Reads>(
         ≡ values_of (T.value order) T.width
         (take (T.width * count) (after (R.device.memory reader.old)))) }
 {
+    let needed = count.saturating_mul(T::width()).min(BLOCK);
+    if needed <= SMALL_BLOCK || !lengthen(scratch, needed) {
+        let mut block = [0u8; SMALL_BLOCK];
+        return read_pieces(alloc, reader, count, order, &mut block);
+    }
+    read_pieces(alloc, reader, count, order, &mut scratch[..needed])
+}
+
+// Lengthens a block to `needed` bytes, if it is shorter. False if that memory is refused; the block
+// is unchanged then.
+fn lengthen(block: &mut Vec<u8>, needed: usize) -> bool
+    ensures { IsTrue result → needed ≤ length block.new.items }
+{
+    block.len() >= needed || block.resize(needed, 0).is_ok()
+}
+
+// The next `count` numbers, as many at once as the block has room for. Its old bytes don't matter.
+#[tactic(auto, using(crate::proofs::Pieces::reading))]
+fn read_pieces<T: NativeType, R: Reads>(
+    alloc: Global,
+    reader: &mut R,
+    count: usize,
+    order: Endianness,
+    block: &mut [u8],
+) -> Result<Vec<T>, Fault>
+    requires room { 32 ≤ length block.old }
+    ensures answer { IfOk result (λ v. vec_len v ≡ count)
+        × IfErr result (λ e. OwnFault e (e ≡ Ended)) }
+    ensures device { ReadsDevice R.device reader.old result reader.new }
+    ensures given { R.device.given reader.new ≤ R.device.given reader.old + T.width * count }
+    ensures memory { IsTrue R.device.is_memory → Answers result
+        (T.width * count ≤ length (after (R.device.memory reader.old)))
+        (λ v. v.items
+        ≡ values_of (T.value order) T.width
+        (take (T.width * count) (after (R.device.memory reader.old)))) }
+{
     let mut numbers = Vec::new(alloc);
-    let mut block = [0u8; BLOCK];
     let width = T::width();
-    let most = BLOCK / width;
+    let most = block.len() / width;
     'pieces: while numbers.len() < count {
         let wanted = (count - numbers.len()).min(most);
         let piece = &mut block[..width * wanted];
@@ -240,6 +285,7 @@ fn read_numbers_at<T: NativeType, R: Reads + Seeks>(
     offset: usize,
     count: usize,
     order: Endianness,
+    scratch: &mut Vec<u8>,
 ) -> Result<Vec<T>, Fault>
     requires { 0 < count }
     ensures count { IfOk result (λ v. vec_len v ≡ count) }
@@ -258,7 +304,7 @@ fn read_numbers_at<T: NativeType, R: Reads + Seeks>(
         return Err(Fault::Ended);
     };
     reader.seek_to(place)?;
-    read_numbers(alloc, reader, count, order)
+    read_numbers(alloc, reader, count, order, scratch)
 }
 
 // Reads `count` bytes, at least one, at `offset` bytes after `base`.
@@ -344,6 +390,7 @@ pub fn fetch_numbers<T: NativeType, R: Reads + Seeks>(
     body: &Body<R>,
     index: usize,
     count: usize,
+    scratch: &mut Vec<u8>,
 ) -> Result<Vec<T>, Fault>
     requires inside { index < length body.now.buffers }
     requires stands { KeepsBytes R.device reader.old body.now }
@@ -371,7 +418,7 @@ pub fn fetch_numbers<T: NativeType, R: Reads + Seeks>(
     if !fit(count, width, listed) {
         return Err(too_short(count, type_name(T::primitive_type()), width, listed));
     }
-    read_numbers_at(alloc, reader, body.base, offset, count, body.order)
+    read_numbers_at(alloc, reader, body.base, offset, count, body.order, scratch)
 }
 
 /// Reads the first `count` bytes of the buffer at `index`.
@@ -723,6 +770,7 @@ pub fn read_offsets<O: StoredOffset, R: Reads + Seeks>(
     body: &Body<R>,
     index: usize,
     count: usize,
+    scratch: &mut Vec<u8>,
 ) -> Result<OffsetsBuffer<O>, Fault>
     requires inside { index < length body.now.buffers }
     requires small { count < 2 ^ 63 }
@@ -743,7 +791,7 @@ pub fn read_offsets<O: StoredOffset, R: Reads + Seeks>(
         check_offset(body, index)?;
         return only_zero(alloc);
     }
-    let numbers = fetch_numbers(alloc, reader, body, index, count + 1)?;
+    let numbers = fetch_numbers(alloc, reader, body, index, count + 1, scratch)?;
     let offsets = Buffer::new(numbers)?;
     Ok(OffsetsBuffer::try_new(offsets)?)
 }

@@ -21,6 +21,7 @@ ghost use Rattle.ipc_read_flat.specs.HeldListed.{HoldsListed, HoldAllListed};
 ghost use Rattle.ipc_read_flat.specs.Kinds.{IsStored, IsBehind, AllFollow, form_of, listed_in, all_listed};
 ghost use Rattle.ipc_read_nested.specs.ReadColumns.{IsColumn};
 ghost use Rattle.ipc_read_flat.specs.Refusals.{IsColumnFault, IsFaultOf, TellsEntries};
+ghost use Rattle.ipc_read_flat.specs.Scratches.{KeepsScratch};
 ghost use Rattle.ipc_read_flat.specs.Steps.{Step};
 
 use crate::read::array::fixed_size_list::{make_fixed_size_list, times_limit};
@@ -35,7 +36,7 @@ use ipc_devices::{Reads, Seeks};
 use ipc_read_flat::read::array::dictionary::read_dictionary;
 use ipc_read_flat::read::body::{Body, Place};
 use ipc_read_flat::read::flat::{flat_after, read_flat};
-use ipc_read_flat::read::read_basic::read_head;
+use ipc_read_flat::read::read_basic::{BLOCK, read_head};
 use lower::datatypes::{DataType, Field, UnionMode};
 use lower::error::{Error, Rule};
 use lower_arrays::array::AnyArray;
@@ -53,6 +54,7 @@ fn read_plain<R: Reads + Seeks>(
     body: &Body<R>,
     place: Place,
     limit: Option<usize>,
+    scratch: &mut Vec<u8>,
 ) -> Result<(AnyArray, Place), Fault>
     requires plain { IsPlain (type_view data_type.now) }
     requires stored { IsStored (type_view own.now) (type_view data_type.now) }
@@ -76,7 +78,16 @@ fn read_plain<R: Reads + Seeks>(
         place.buffer limit) }
 {
     let physical_type = own.to_physical_type();
-    let array = read_flat(alloc, physical_type, own, reader, body, place, limit)?;
+    let array = read_flat(
+        alloc,
+        physical_type,
+        own,
+        reader,
+        body,
+        place,
+        limit,
+        scratch,
+    )?;
     let after = flat_after(physical_type, own, body, place);
     Ok((array, after))
 }
@@ -94,6 +105,7 @@ fn read_as<R: Reads + Seeks>(
     body: &Body<R>,
     place: Place,
     limit: Option<usize>,
+    scratch: &mut Vec<u8>,
 ) -> Result<(AnyArray, Place), Fault>
     requires stored { IsStored (type_view own.now) (type_view data_type.now) }
     requires room { let t = kind_of (type_view data_type.now) id (all_ids_view ids.now) in HasRoom body.now place (nodes t) (buffers body.now.extra t) }
@@ -117,31 +129,35 @@ fn read_as<R: Reads + Seeks>(
 {
     match data_type {
         DataType::Extension(_, inner, _) => read_as(
-            alloc, inner, own, id, ids, reader, body, place, limit,
+            alloc, inner, own, id, ids, reader, body, place, limit, scratch,
         ),
         DataType::List(field) => read_list(
-            alloc, field, own, ids, reader, body, place, limit, false,
+            alloc, field, own, ids, reader, body, place, limit, false, scratch,
         ),
         DataType::LargeList(field) => read_list(
-            alloc, field, own, ids, reader, body, place, limit, true,
+            alloc, field, own, ids, reader, body, place, limit, true, scratch,
         ),
         DataType::Dictionary(keys, values, _) => read_dictionary(
-            alloc, *keys, values, own, id, reader, body, place, limit,
+            alloc, *keys, values, own, id, reader, body, place, limit, scratch,
         ),
         DataType::Struct(fields) => read_struct(
-            alloc, fields, own, ids, reader, body, place, limit,
+            alloc, fields, own, ids, reader, body, place, limit, scratch,
         ),
         DataType::FixedSizeList(field, size) => read_fixed_size_list(
-            alloc, field, *size, own, ids, reader, body, place, limit,
+            alloc, field, *size, own, ids, reader, body, place, limit, scratch,
         ),
-        DataType::Map(field, _) => read_map(alloc, field, own, ids, reader, body, place, limit),
+        DataType::Map(field, _) => read_map(
+            alloc, field, own, ids, reader, body, place, limit, scratch,
+        ),
         DataType::Union(fields, type_ids, mode) => read_union(
-            alloc, fields, type_ids, *mode, own, ids, reader, body, place, limit,
+            alloc, fields, type_ids, *mode, own, ids, reader, body, place, limit, scratch,
         ),
         DataType::Float16 | DataType::Float32 | DataType::Float64 => Err(Fault::NotYetImplemented(
             Nyi::Float,
         )),
-        _ => read_plain(alloc, data_type, own, id, ids, reader, body, place, limit),
+        _ => read_plain(
+            alloc, data_type, own, id, ids, reader, body, place, limit, scratch,
+        ),
     }
 }
 
@@ -158,6 +174,7 @@ fn read_list<R: Reads + Seeks>(
     place: Place,
     limit: Option<usize>,
     is_large: bool,
+    scratch: &mut Vec<u8>,
 ) -> Result<(AnyArray, Place), Fault>
     requires lies { physical (type_view own.now) ≡ list_with (offset_type (form_of is_large)) }
     requires fields { child_fields (type_view own.now) ≡ more_fields (field_view field.now) no_fields }
@@ -184,7 +201,7 @@ fn read_list<R: Reads + Seeks>(
         (λ r. layout_of r.0 ≡ array_at s (known body.now) t (type_view own.now) place.node
         place.buffer limit) }
 {
-    let head = read_list_head(alloc, reader, body, place, limit, is_large)?;
+    let head = read_list_head(alloc, reader, body, place, limit, is_large, scratch)?;
     let (child_id, child_ids) = child_of(field, ids);
     let below = Place {
         node: place.node + 1,
@@ -200,6 +217,7 @@ fn read_list<R: Reads + Seeks>(
         body,
         below,
         Some(head.last),
+        scratch,
     )?;
     let array = make_list(alloc, own, head, child)?;
     Ok((array, after))
@@ -218,6 +236,7 @@ fn read_fixed_size_list<R: Reads + Seeks>(
     body: &Body<R>,
     start: Place,
     limit: Option<usize>,
+    scratch: &mut Vec<u8>,
 ) -> Result<(AnyArray, Place), Fault>
     requires lies { physical (type_view own.now) ≡ FixedSizeList }
     requires named { list_size (type_view own.now) ≡ size }
@@ -264,6 +283,7 @@ fn read_fixed_size_list<R: Reads + Seeks>(
         body,
         below,
         most,
+        scratch,
     )?;
     let array = make_fixed_size_list(alloc, own, size, head, child)?;
     Ok((array, after))
@@ -281,6 +301,7 @@ fn read_map<R: Reads + Seeks>(
     body: &Body<R>,
     start: Place,
     limit: Option<usize>,
+    scratch: &mut Vec<u8>,
 ) -> Result<(AnyArray, Place), Fault>
     requires lies { physical (type_view own.now) ≡ Map }
     requires fields { child_fields (type_view own.now) ≡ more_fields (field_view field.now) no_fields }
@@ -305,7 +326,7 @@ fn read_map<R: Reads + Seeks>(
         (λ r. layout_of r.0 ≡ array_at s (known body.now) t (type_view own.now) start.node
         start.buffer limit) }
 {
-    let head = read_map_head(alloc, reader, body, start, limit)?;
+    let head = read_map_head(alloc, reader, body, start, limit, scratch)?;
     let (child_id, child_ids) = child_of(field, ids);
     let below = Place {
         node: start.node + 1,
@@ -322,6 +343,7 @@ fn read_map<R: Reads + Seeks>(
         body,
         below,
         most,
+        scratch,
     )?;
     let array = make_map(alloc, own, head, child)?;
     Ok((array, after))
@@ -339,6 +361,7 @@ fn read_struct<R: Reads + Seeks>(
     body: &Body<R>,
     place: Place,
     limit: Option<usize>,
+    scratch: &mut Vec<u8>,
 ) -> Result<(AnyArray, Place), Fault>
     requires lies { physical (type_view own.now) ≡ Struct }
     requires fields { child_fields (type_view own.now) ≡ fields_view fields.now }
@@ -366,7 +389,9 @@ fn read_struct<R: Reads + Seeks>(
         node: place.node + 1,
         buffer: place.buffer + 1,
     };
-    let (columns, after) = read_fields(alloc, fields, ids, reader, body, below, limit, head.rows)?;
+    let (columns, after) = read_fields(
+        alloc, fields, ids, reader, body, below, limit, head.rows, scratch,
+    )?;
     let array = make_struct(own, head, columns)?;
     Ok((array, after))
 }
@@ -383,6 +408,7 @@ fn read_fields<R: Reads + Seeks>(
     start: Place,
     limit: Option<usize>,
     rows: usize,
+    scratch: &mut Vec<u8>,
 ) -> Result<(Vec<AnyArray>, Place), Fault>
     requires room { let ts = kinds_of (fields_view fields.now) (all_ids_view ids.now) in HasRoom body.now start (all_nodes ts) (all_buffers body.now.extra ts) }
     requires stands { KeepsBytes R.device reader.old body.now }
@@ -418,6 +444,7 @@ fn read_fields<R: Reads + Seeks>(
             body,
             place,
             limit,
+            scratch,
         )?;
         if column.len() != rows {
             return Err(Fault::Lower(Error::OutOfSpec(Rule::ChildLength)));
@@ -443,6 +470,7 @@ fn read_union<R: Reads + Seeks>(
     body: &Body<R>,
     place: Place,
     limit: Option<usize>,
+    scratch: &mut Vec<u8>,
 ) -> Result<(AnyArray, Place), Fault>
     requires lies { physical (type_view own.now) ≡ Union }
     requires fields { child_fields (type_view own.now) ≡ fields_view fields.now }
@@ -470,7 +498,7 @@ fn read_union<R: Reads + Seeks>(
         (λ r. layout_of r.0 ≡ array_at s (known body.now) t (type_view own.now) place.node
         place.buffer limit) }
 {
-    let types = read_types(alloc, reader, body, place, limit)?;
+    let types = read_types(alloc, reader, body, place, limit, scratch)?;
     let rows = types.len();
     match mode {
         UnionMode::Sparse => {
@@ -479,19 +507,21 @@ fn read_union<R: Reads + Seeks>(
                 buffer: place.buffer + body.extra + 1,
             };
             let (columns, after) = read_fields(
-                alloc, fields, ids, reader, body, below, limit, rows,
+                alloc, fields, ids, reader, body, below, limit, rows, scratch,
             )?;
             let array = make_union(own, types, None, columns)?;
             Ok((array, after))
         }
         UnionMode::Dense => {
             let index = place.buffer + body.extra + 1;
-            let places = read_places(alloc, reader, body, index, rows)?;
+            let places = read_places(alloc, reader, body, index, rows, scratch)?;
             let below = Place {
                 node: place.node + 1,
                 buffer: place.buffer + body.extra + 2,
             };
-            let (columns, after) = read_whole_fields(alloc, fields, ids, reader, body, below)?;
+            let (columns, after) = read_whole_fields(
+                alloc, fields, ids, reader, body, below, scratch,
+            )?;
             let array = make_union(own, types, Some(places), columns)?;
             Ok((array, after))
         }
@@ -508,6 +538,7 @@ fn read_whole_fields<R: Reads + Seeks>(
     reader: &mut R,
     body: &Body<R>,
     start: Place,
+    scratch: &mut Vec<u8>,
 ) -> Result<(Vec<AnyArray>, Place), Fault>
     requires room { let ts = kinds_of (fields_view fields.now) (all_ids_view ids.now) in HasRoom body.now start (all_nodes ts) (all_buffers body.now.extra ts) }
     requires stands { KeepsBytes R.device reader.old body.now }
@@ -543,6 +574,7 @@ fn read_whole_fields<R: Reads + Seeks>(
             body,
             place,
             None,
+            scratch,
         )?;
         columns.push(column)?;
         place = after;
@@ -556,6 +588,8 @@ fn read_whole_fields<R: Reads + Seeks>(
 /// - `id`, `ids`: the dictionary ids of the field with this type, and of its child fields.
 /// - `place`: the position of the column. The entries that its type needs must be present.
 /// - `limit`: reads at most this many rows; None reads all.
+/// - `scratch`: a block that longer buffers of numbers are read through, unless the device lends
+///   their bytes. It has at most 65,536 bytes afterwards.
 ///
 /// See "RecordBatch message" in the Arrow columnar format: nodes and buffers are in pre-order. The
 /// array retains at most the encoded length of the column's buffers, plus one offset for each empty
@@ -582,6 +616,7 @@ pub fn read<R: Reads + Seeks>(
     body: &Body<R>,
     place: Place,
     limit: Option<usize>,
+    scratch: &mut Vec<u8>,
 ) -> Result<(AnyArray, Place), Fault>
     requires room { let t = kind_of (type_view data_type.now) id (all_ids_view ids.now) in HasRoom body.now place (nodes t) (buffers body.now.extra t) }
     requires stands { KeepsBytes R.device reader.old body.now }
@@ -601,8 +636,12 @@ pub fn read<R: Reads + Seeks>(
         Answers result (IsWell s t place.node place.buffer limit)
         (λ r. IsColumn s (known body.now) t (type_view data_type.now) place.node place.buffer limit
         (layout_of r.0)) }
+    ensures scratch { KeepsScratch scratch.old.items scratch.new.items }
 {
-    read_as(
-        alloc, data_type, data_type, id, ids, reader, body, place, limit,
-    )
+    let column = read_as(
+        alloc, data_type, data_type, id, ids, reader, body, place, limit, scratch,
+    );
+    // for the proof: no buffer lengthens it further
+    scratch.truncate(BLOCK);
+    column
 }

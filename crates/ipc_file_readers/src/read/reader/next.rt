@@ -4,7 +4,7 @@ ghost use Rattle.std.specs.Iterator.{at_most};
 ghost use Rattle.ipc_devices.specs.declared.fault.Fault.TheVariants.{Memory};
 ghost use Rattle.ipc_model.specs.Batches.{IsProjection};
 ghost use Rattle.ipc_projection.specs.ChosenColumns.{items_of};
-ghost use Rattle.ipc_file_readers.specs.Readers.{IsUnread, DiffersInScratches, NextStep, blocks_left, device_of, is_over, known_of, less, metadata_of, schema_of, scratches_of};
+ghost use Rattle.ipc_file_readers.specs.Readers.{IsUnread, DiffersInScratches, NextStep, TriesFile, blocks_left, device_of, is_over, known_of, item_block, less, metadata_of, schema_of, scratches_of};
 ghost use Rattle.ipc_file_readers.specs.Steps.{BlockGave, DictionariesGave, NextGave};
 
 use crate::read::reader::state::FileReader;
@@ -13,6 +13,7 @@ use ipc_devices::fault::Fault;
 use ipc_devices::{Reads, Seeks};
 use ipc_files::read::file::{FileMetadata, read_batch, read_file_dictionaries};
 use ipc_projection::read::chosen::{choose, in_order, rising, shown};
+use ipc_projection::read::projection::are_there;
 use lower::datatypes::Schema;
 use lower_arrays::array::AnyArray;
 use std::alloc::Global;
@@ -62,6 +63,27 @@ impl<R: Reads + Seeks + Drop> FileReader<R> {
         })
     }
 
+    /// A reader as [`new`](FileReader::new) makes it, or None where that can't be called.
+    ///
+    /// It is None exactly if a requested column doesn't exist or is requested twice; the device is
+    /// dropped then. The error is `Memory`, as that of `new`.
+    pub fn try_new(
+        alloc: Global,
+        reader: R,
+        metadata: FileMetadata,
+        projection: Option<Vec<usize>>,
+        limit: Option<usize>,
+    ) -> Result<Option<FileReader<R>>, Fault>
+        ensures tried { IfOk result (λ made.
+            TriesFile reader metadata (items_of projection) limit made) }
+        ensures only { IfErr result (λ e. (e ≡ Memory) × IsSome projection) }
+    {
+        if !are_there(&projection, metadata.schema.fields.len()) {
+            return Ok(None);
+        }
+        Ok(Some(FileReader::new(alloc, reader, metadata, projection, limit)?))
+    }
+
     /// The schema of the chunks, with the fields of the requested columns in their order.
     ///
     /// It has the metadata of the file's schema.
@@ -94,7 +116,23 @@ impl<R: Reads + Seeks + Drop> FileReader<R> {
         self.current_block >= self.metadata.blocks.len()
     }
 
+    /// The block that the last chunk or error came from: its index in the footer's list.
+    ///
+    /// None before the first item, and if that was the error of the dictionaries.
+    pub fn block(&self) -> Option<usize>
+        ensures { result ≡ item_block self.now }
+    {
+        if self.dictionaries.is_none() {
+            None
+        } else {
+            self.current_block.checked_sub(1)
+        }
+    }
+
     /// Takes the scratch memory for data and for messages, and leaves empty vectors.
+    ///
+    /// [`set_scratches`](FileReader::set_scratches) hands it to the reader of another file, which
+    /// then needn't allocate its own.
     pub fn get_scratches(&mut self) -> (Vec<u8>, Vec<u8>)
         ensures taken { result ≡ scratches_of self.old }
         ensures data_left { (scratches_of self.new).0.items ≡ [] }

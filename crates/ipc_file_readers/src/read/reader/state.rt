@@ -24,7 +24,7 @@ use std::alloc::Global;
 ///
 /// - After an error of a block, including `Memory` and `Io`, the next call continues with the block
 ///   after it. The dictionaries and the rest of the limit are kept.
-/// - After an error of the dictionaries the scratch memory and the limit are as before.
+/// - After an error of the dictionaries the limit and the scratch memory for messages stay.
 ///
 /// # Bytes
 /// A call that returns a chunk reads at most the block's message, its prefix and the encoded length
@@ -34,11 +34,16 @@ use std::alloc::Global;
 ///
 /// The arrays of a chunk retain at most the encoded length of these buffers, and at most the size
 /// of the file, plus one offset for each empty offset buffer. The same applies to the array of a
-/// dictionary's values, by one of its blocks. The scratch memory for messages keeps the metadata of
-/// the last message; the one for data isn't used.
+/// dictionary's values, by one of its blocks.
+///
+/// # Scratch memory
+/// The one for messages keeps the metadata of the last message. The one for data is a block that
+/// columns are read through, as [`read_record_batch`] says. A caller who reads many files passes
+/// both from reader to reader, with `get_scratches` and `set_scratches`.
 ///
 /// [`read_file_dictionaries`]: ipc_files::read::file::read_file_dictionaries
 /// [`read_batch`]: ipc_files::read::file::read_batch
+/// [`read_record_batch`]: ipc_read::read::common::read_record_batch
 #[derive(Drop)]
 pub struct FileReader<R> {
     pub(crate) alloc: Global,

@@ -11,6 +11,7 @@ ghost use Rattle.ipc_files.specs.Api.{ReadsBatch, block_request};
 ghost use Rattle.ipc_files.specs.Batches.{needed_record};
 ghost use Rattle.ipc_files.specs.Footers.{GivesPart, file_seen};
 ghost use Rattle.ipc_read_flat.specs.Bodies.{known_dictionaries};
+ghost use Rattle.ipc_read_flat.specs.Scratches.{KeepsScratch};
 ghost use Rattle.ipc_read.specs.Chunks.{chunk_seen};
 ghost use Rattle.ipc_read.specs.Columns.{ArePrepared};
 ghost use Rattle.ipc_read.specs.HeldChunks.{HoldChosen};
@@ -73,7 +74,7 @@ fn read_record<R: Reads + Seeks>(
         → let js = chosen (option_copied projection.entry)
         (length metadata.now.schema.fields.items) in
         IfOk result (λ xs. HaveMeaning (known_dictionaries dictionaries.now) (all_ids_view metadata.now.ipc_schema.fields.items) js (chunk_seen xs) (map layout_of xs)) }
-    ensures idle { scratch.new ≡ scratch.old }
+    ensures scratch { KeepsScratch scratch.old.items scratch.new.items }
 {
     read_record_batch(
         alloc,
@@ -100,7 +101,8 @@ fn read_record<R: Reads + Seeks>(
 ///   column is read or checked.
 /// - `limit`: reads at most this many rows of each column; None reads all.
 /// - `index`: the index of any block in `metadata.blocks`.
-/// - `message_scratch`: keeps the metadata of the message. `data_scratch` isn't used.
+/// - `message_scratch`: keeps the metadata of the message.
+/// - `data_scratch`: a block that columns are read through, as [`read_record_batch`] says.
 ///
 /// See "IPC File Format" in the Arrow columnar format. The version is that of the block's own
 /// message; the stated length of the body isn't used.
@@ -150,7 +152,7 @@ pub fn read_batch<R: Reads + Seeks>(
     ensures batch { let q = block_request metadata.now dictionaries.now
         (option_copied projection.entry) limit index in
         ReadsBatch R.device q reader.old message_scratch.new.items result reader.new }
-    ensures idle { data_scratch.new ≡ data_scratch.old }
+    ensures scratch { KeepsScratch data_scratch.old.items data_scratch.new.items }
 {
     let block = &metadata.blocks[index];
     let place = place_of(block, OutOfSpecKind::NegativeFooterLength)?;

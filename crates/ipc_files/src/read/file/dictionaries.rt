@@ -11,6 +11,7 @@ ghost use Rattle.ipc_files.specs.Batches.{BlockGiven, block_metadata};
 ghost use Rattle.ipc_files.specs.Dictionaries.{DictionaryReason, GivesKnown, HoldsHeader, IsDictionaryBlockFault, needed_dictionary, needed_values};
 ghost use Rattle.ipc_files.specs.Footers.{file_seen};
 ghost use Rattle.ipc_read_flat.specs.Bodies.{array_under, known_dictionaries};
+ghost use Rattle.ipc_read_flat.specs.Scratches.{KeepsScratch};
 ghost use Rattle.ipc_read.specs.HeldChunks.{HoldsValues};
 ghost use Rattle.ipc_read.specs.DictionaryBatches.{BlamesDictionary, IsDictionaryFault, TellsValues, values_listed};
 
@@ -60,7 +61,7 @@ fn read_values<R: Reads + Seeks>(
         (dictionary_meaning m.schema (extra_of version) (known_dictionaries dictionaries.old)
         (record { source = (R.device.memory reader.old).whole; base = body; size = m.size })
         batch.entry) }
-    ensures idle { scratch.new ≡ scratch.old }
+    ensures scratch { KeepsScratch scratch.old.items scratch.new.items }
 {
     read_dictionary(
         alloc,
@@ -108,7 +109,7 @@ fn read_dictionary_block<R: Reads + Seeks>(
         → GivesKnown (λ _. known_dictionaries dictionaries.new) result
         (dictionaries_at (file_seen metadata.now) (known_dictionaries dictionaries.old)
         (R.device.memory reader.old).whole block.now) }
-    ensures idle { data_scratch.new ≡ data_scratch.old }
+    ensures scratch { KeepsScratch data_scratch.old.items data_scratch.new.items }
 {
     let place = place_of(block, OutOfSpecKind::UnexpectedNegativeInteger)?;
     let negative = OutOfSpecKind::NegativeFooterLength;
@@ -132,7 +133,7 @@ fn read_dictionary_block<R: Reads + Seeks>(
 ///
 /// - `metadata`: of a file that begins where the device begins, as blocks have offsets of the
 ///   device.
-/// - `scratch`: isn't used.
+/// - `scratch`: a block that the values are read through, as [`read_dictionary`] says.
 ///
 /// See "IPC File Format" in the Arrow columnar format. If an id comes again, its last values count.
 /// The version of each block is that of its own message; the stated lengths of bodies aren't used.
@@ -169,7 +170,7 @@ pub fn read_file_dictionaries<R: Reads + Seeks>(
 ) -> Result<Dictionaries, Fault>
     ensures dictionaries { ReadsDictionaries R.device (file_seen metadata.now) reader.old result
         reader.new }
-    ensures idle { scratch.new ≡ scratch.old }
+    ensures scratch { KeepsScratch scratch.old.items scratch.new.items }
 {
     let mut dictionaries = HashMap::new(alloc);
     let mut message = Vec::new(alloc);

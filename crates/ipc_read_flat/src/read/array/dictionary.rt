@@ -82,6 +82,7 @@ pub fn read_keys<R: Reads + Seeks>(
     body: &Body<R>,
     place: Place,
     limit: Option<usize>,
+    scratch: &mut Vec<u8>,
 ) -> Result<DictionaryKeys, Fault>
     requires typed { type_view data_type.now ≡ plain (integer keys) }
     requires room { HasRoom body.now place 1 2 }
@@ -102,35 +103,35 @@ pub fn read_keys<R: Reads + Seeks>(
 {
     match keys {
         IntegerType::Int8 => {
-            let read = read_primitive(alloc, data_type, reader, body, place, limit)?;
+            let read = read_primitive(alloc, data_type, reader, body, place, limit, scratch)?;
             Ok(DictionaryKeys::Int8(read))
         }
         IntegerType::Int16 => {
-            let read = read_primitive(alloc, data_type, reader, body, place, limit)?;
+            let read = read_primitive(alloc, data_type, reader, body, place, limit, scratch)?;
             Ok(DictionaryKeys::Int16(read))
         }
         IntegerType::Int32 => {
-            let read = read_primitive(alloc, data_type, reader, body, place, limit)?;
+            let read = read_primitive(alloc, data_type, reader, body, place, limit, scratch)?;
             Ok(DictionaryKeys::Int32(read))
         }
         IntegerType::Int64 => {
-            let read = read_primitive(alloc, data_type, reader, body, place, limit)?;
+            let read = read_primitive(alloc, data_type, reader, body, place, limit, scratch)?;
             Ok(DictionaryKeys::Int64(read))
         }
         IntegerType::UInt8 => {
-            let read = read_primitive(alloc, data_type, reader, body, place, limit)?;
+            let read = read_primitive(alloc, data_type, reader, body, place, limit, scratch)?;
             Ok(DictionaryKeys::UInt8(read))
         }
         IntegerType::UInt16 => {
-            let read = read_primitive(alloc, data_type, reader, body, place, limit)?;
+            let read = read_primitive(alloc, data_type, reader, body, place, limit, scratch)?;
             Ok(DictionaryKeys::UInt16(read))
         }
         IntegerType::UInt32 => {
-            let read = read_primitive(alloc, data_type, reader, body, place, limit)?;
+            let read = read_primitive(alloc, data_type, reader, body, place, limit, scratch)?;
             Ok(DictionaryKeys::UInt32(read))
         }
         IntegerType::UInt64 => {
-            let read = read_primitive(alloc, data_type, reader, body, place, limit)?;
+            let read = read_primitive(alloc, data_type, reader, body, place, limit, scratch)?;
             Ok(DictionaryKeys::UInt64(read))
         }
     }
@@ -182,6 +183,7 @@ pub fn read_dictionary<R: Reads + Seeks>(
     body: &Body<R>,
     place: Place,
     limit: Option<usize>,
+    scratch: &mut Vec<u8>,
 ) -> Result<(AnyArray, Place), Fault>
     requires lies { physical (type_view own.now) ≡ Dictionary keys }
     requires named { named_type (type_view own.now) ≡ type_view value_type.now }
@@ -206,7 +208,7 @@ pub fn read_dictionary<R: Reads + Seeks>(
 {
     let values = shared_values(value_type, id, body)?;
     let key_type = DataType::from(keys);
-    let read = read_keys(alloc, keys, &key_type, reader, body, place, limit)?;
+    let read = read_keys(alloc, keys, &key_type, reader, body, place, limit, scratch)?;
     let array = make_dictionary(own, read, values)?;
     let after = Place {
         node: place.node + 1,

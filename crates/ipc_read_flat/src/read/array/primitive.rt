@@ -43,6 +43,7 @@ pub fn read_primitive<T: NativeType, R: Reads + Seeks>(
     body: &Body<R>,
     place: Place,
     limit: Option<usize>,
+    scratch: &mut Vec<u8>,
 ) -> Result<PrimitiveArray<T>, Fault>
     requires lies { physical (type_view data_type.now) ≡ Primitive T.primitive }
     requires room { HasRoom body.now place 1 2 }
@@ -62,7 +63,7 @@ pub fn read_primitive<T: NativeType, R: Reads + Seeks>(
         place.node place.buffer limit) }
 {
     let head = read_head(alloc, reader, body, place, limit)?;
-    let values = fetch_numbers(alloc, reader, body, place.buffer + 1, head.rows)?;
+    let values = fetch_numbers(alloc, reader, body, place.buffer + 1, head.rows, scratch)?;
     let values = Buffer::new(values)?;
     let data_type = data_type.clone()?;
     Ok(PrimitiveArray::try_new(data_type, values, head.validity)?)
@@ -79,6 +80,7 @@ pub fn read_any_primitive<R: Reads + Seeks>(
     body: &Body<R>,
     place: Place,
     limit: Option<usize>,
+    scratch: &mut Vec<u8>,
 ) -> Result<AnyPrimitive, Fault>
     requires exact { IsExact primitive }
     requires lies { physical (type_view data_type.now) ≡ Primitive primitive }
@@ -100,51 +102,51 @@ pub fn read_any_primitive<R: Reads + Seeks>(
 {
     match primitive {
         PrimitiveType::Int8 => {
-            let array = read_primitive(alloc, data_type, reader, body, place, limit)?;
+            let array = read_primitive(alloc, data_type, reader, body, place, limit, scratch)?;
             Ok(AnyPrimitive::Int8(array))
         }
         PrimitiveType::Int16 => {
-            let array = read_primitive(alloc, data_type, reader, body, place, limit)?;
+            let array = read_primitive(alloc, data_type, reader, body, place, limit, scratch)?;
             Ok(AnyPrimitive::Int16(array))
         }
         PrimitiveType::Int32 => {
-            let array = read_primitive(alloc, data_type, reader, body, place, limit)?;
+            let array = read_primitive(alloc, data_type, reader, body, place, limit, scratch)?;
             Ok(AnyPrimitive::Int32(array))
         }
         PrimitiveType::Int64 => {
-            let array = read_primitive(alloc, data_type, reader, body, place, limit)?;
+            let array = read_primitive(alloc, data_type, reader, body, place, limit, scratch)?;
             Ok(AnyPrimitive::Int64(array))
         }
         PrimitiveType::Int128 => {
-            let array = read_primitive(alloc, data_type, reader, body, place, limit)?;
+            let array = read_primitive(alloc, data_type, reader, body, place, limit, scratch)?;
             Ok(AnyPrimitive::Int128(array))
         }
         PrimitiveType::Int256 => {
-            let array = read_primitive(alloc, data_type, reader, body, place, limit)?;
+            let array = read_primitive(alloc, data_type, reader, body, place, limit, scratch)?;
             Ok(AnyPrimitive::Int256(array))
         }
         PrimitiveType::UInt8 => {
-            let array = read_primitive(alloc, data_type, reader, body, place, limit)?;
+            let array = read_primitive(alloc, data_type, reader, body, place, limit, scratch)?;
             Ok(AnyPrimitive::UInt8(array))
         }
         PrimitiveType::UInt16 => {
-            let array = read_primitive(alloc, data_type, reader, body, place, limit)?;
+            let array = read_primitive(alloc, data_type, reader, body, place, limit, scratch)?;
             Ok(AnyPrimitive::UInt16(array))
         }
         PrimitiveType::UInt32 => {
-            let array = read_primitive(alloc, data_type, reader, body, place, limit)?;
+            let array = read_primitive(alloc, data_type, reader, body, place, limit, scratch)?;
             Ok(AnyPrimitive::UInt32(array))
         }
         PrimitiveType::UInt64 => {
-            let array = read_primitive(alloc, data_type, reader, body, place, limit)?;
+            let array = read_primitive(alloc, data_type, reader, body, place, limit, scratch)?;
             Ok(AnyPrimitive::UInt64(array))
         }
         PrimitiveType::DaysMs => {
-            let array = read_primitive(alloc, data_type, reader, body, place, limit)?;
+            let array = read_primitive(alloc, data_type, reader, body, place, limit, scratch)?;
             Ok(AnyPrimitive::DaysMs(array))
         }
         PrimitiveType::MonthDayNano => {
-            let array = read_primitive(alloc, data_type, reader, body, place, limit)?;
+            let array = read_primitive(alloc, data_type, reader, body, place, limit, scratch)?;
             Ok(AnyPrimitive::MonthDayNano(array))
         }
         PrimitiveType::Float16 | PrimitiveType::Float32 | PrimitiveType::Float64 => {

@@ -43,6 +43,7 @@ pub fn read_utf8<O: StoredOffset, R: Reads + Seeks>(
     body: &Body<R>,
     place: Place,
     limit: Option<usize>,
+    scratch: &mut Vec<u8>,
 ) -> Result<Utf8Array<O>, Fault>
     requires lies { physical (type_view data_type.now) ≡ texts_with O.primitive }
     requires room { HasRoom body.now place 1 3 }
@@ -64,7 +65,7 @@ pub fn read_utf8<O: StoredOffset, R: Reads + Seeks>(
 {
     let head = read_head(alloc, reader, body, place, limit)?;
     let index = place.buffer + 1;
-    let offsets = read_offsets(alloc, reader, body, index, head.rows)?;
+    let offsets = read_offsets(alloc, reader, body, index, head.rows, scratch)?;
     let values = fetch_bytes(alloc, reader, body, index + 1, offsets.last())?;
     let data_type = data_type.clone()?;
     Ok(Utf8Array::try_new(data_type, offsets, values, head.validity)?)

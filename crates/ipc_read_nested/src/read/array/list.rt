@@ -61,6 +61,7 @@ pub fn read_list_head<R: Reads + Seeks>(
     place: Place,
     limit: Option<usize>,
     is_large: bool,
+    scratch: &mut Vec<u8>,
 ) -> Result<ListHead, Fault>
     requires room { HasRoom body.now place 1 2 }
     requires stands { KeepsBytes R.device reader.old body.now }
@@ -86,7 +87,7 @@ pub fn read_list_head<R: Reads + Seeks>(
     let head = read_head(alloc, reader, body, place, limit)?;
     let index = place.buffer + 1;
     if is_large {
-        let offsets = read_offsets::<i64, R>(alloc, reader, body, index, head.rows)?;
+        let offsets = read_offsets::<i64, R>(alloc, reader, body, index, head.rows, scratch)?;
         let last = offsets.last();
         return Ok(ListHead {
             validity: head.validity,
@@ -94,7 +95,7 @@ pub fn read_list_head<R: Reads + Seeks>(
             last,
         });
     }
-    let offsets = read_offsets::<i32, R>(alloc, reader, body, index, head.rows)?;
+    let offsets = read_offsets::<i32, R>(alloc, reader, body, index, head.rows, scratch)?;
     let last = offsets.last();
     Ok(ListHead {
         validity: head.validity,

@@ -58,6 +58,7 @@ pub fn read_map_head<R: Reads + Seeks>(
     body: &Body<R>,
     place: Place,
     limit: Option<usize>,
+    scratch: &mut Vec<u8>,
 ) -> Result<MapHead, Fault>
     requires room { HasRoom body.now place 1 2 }
     requires stands { KeepsBytes R.device reader.old body.now }
@@ -78,7 +79,8 @@ pub fn read_map_head<R: Reads + Seeks>(
         (λ h. AreListsAt s offsets_32 place.node place.buffer k h.offsets h.validity h.last) }
 {
     let head = read_head(alloc, reader, body, place, limit)?;
-    let offsets = read_offsets::<i32, R>(alloc, reader, body, place.buffer + 1, head.rows)?;
+    let index = place.buffer + 1;
+    let offsets = read_offsets::<i32, R>(alloc, reader, body, index, head.rows, scratch)?;
     let last = offsets.last();
     Ok(MapHead {
         validity: head.validity,

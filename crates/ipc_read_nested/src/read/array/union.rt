@@ -30,6 +30,7 @@ fn fetch_types<R: Reads + Seeks>(
     body: &Body<R>,
     index: usize,
     count: usize,
+    scratch: &mut Vec<u8>,
 ) -> Result<Buffer<i8>, Fault>
     requires inside { index < length body.now.buffers }
     requires stands { KeepsBytes R.device reader.old body.now }
@@ -44,7 +45,7 @@ fn fetch_types<R: Reads + Seeks>(
     ensures memory { IsTrue R.device.is_memory → let s = entries R.device body.now in
         Answers result (Need s index count) (λ types. types ≡ integers_of s index Int8 count) }
 {
-    let types = fetch_numbers::<i8, R>(alloc, reader, body, index, count)?;
+    let types = fetch_numbers::<i8, R>(alloc, reader, body, index, count, scratch)?;
     Ok(Buffer::new(types)?)
 }
 
@@ -57,6 +58,7 @@ pub fn read_places<R: Reads + Seeks>(
     body: &Body<R>,
     index: usize,
     count: usize,
+    scratch: &mut Vec<u8>,
 ) -> Result<Buffer<i32>, Fault>
     requires inside { index < length body.now.buffers }
     requires stands { KeepsBytes R.device reader.old body.now }
@@ -72,7 +74,7 @@ pub fn read_places<R: Reads + Seeks>(
         Answers result (Need s index (4 * count))
         (λ places. places ≡ integers_of s index Int32 count) }
 {
-    let places = fetch_numbers::<i32, R>(alloc, reader, body, index, count)?;
+    let places = fetch_numbers::<i32, R>(alloc, reader, body, index, count, scratch)?;
     Ok(Buffer::new(places)?)
 }
 
@@ -92,6 +94,7 @@ pub fn read_types<R: Reads + Seeks>(
     body: &Body<R>,
     place: Place,
     limit: Option<usize>,
+    scratch: &mut Vec<u8>,
 ) -> Result<Buffer<i8>, Fault>
     requires room { HasRoom body.now place 1 (1 + body.now.extra) }
     requires stands { KeepsBytes R.device reader.old body.now }
@@ -111,7 +114,8 @@ pub fn read_types<R: Reads + Seeks>(
         (length types ≡ k)) }
 {
     let node = read_node(body, place.node, limit)?;
-    fetch_types(alloc, reader, body, place.buffer + body.extra, node.rows)
+    let index = place.buffer + body.extra;
+    fetch_types(alloc, reader, body, index, node.rows, scratch)
 }
 
 /// Makes the array of a union of some columns.

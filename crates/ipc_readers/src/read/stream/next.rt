@@ -12,7 +12,7 @@ ghost use Rattle.ipc_model.specs.Streams.{most_dictionaries};
 ghost use Rattle.ipc_table_views.specs.Unions.{header_parts};
 ghost use Rattle.lower.specs.TypeViews.{fields_view};
 ghost use Rattle.ipc_projection.specs.ChosenColumns.{items_of};
-ghost use Rattle.ipc_readers.specs.Api.{MakesReader};
+ghost use Rattle.ipc_readers.specs.Api.{MakesReader, TriesReader};
 ghost use Rattle.ipc_readers.specs.KeptValues.{KeepsValues, KeptOfBatch, KeptOfBody, KeptOfItem, KeepsArrays, values_in, values_of};
 ghost use Rattle.ipc_readers.specs.Messages.{header_seen};
 ghost use Rattle.ipc_readers.specs.Refusals.{IsStreamFault};
@@ -24,9 +24,11 @@ use crate::read::message::{Message, open_message};
 use crate::read::stream::metadata::StreamMetadata;
 use crate::read::stream::reader::{Batches, Found, StreamReader, StreamState};
 use ipc_base::chunk::Chunk;
+use ipc_base::ipc::fits;
 use ipc_devices::fault::{Fault, OutOfSpecKind};
 use ipc_devices::{Bytes, MemFile, Reads, read_into};
 use ipc_projection::read::chosen::{choose, in_order, rising, shown};
+use ipc_projection::read::projection::are_there;
 use ipc_read::read::common::read_record_batch;
 use ipc_read::read::dictionaries::read_dictionary;
 use ipc_table_views::{DictionaryBatchRef, MessageHeaderRef, RecordBatchRef};
@@ -277,6 +279,30 @@ impl<R: Reads + Drop> StreamReader<R> {
             batches,
             finished: false,
         })
+    }
+
+    /// A reader as [`new`](StreamReader::new) makes it, or None where that can't be called.
+    ///
+    /// It is None exactly if the dictionary ids haven't the shape of the fields, or a requested
+    /// column doesn't exist or is requested twice; the device is dropped then. The error is
+    /// `Memory`, as that of `new`.
+    pub fn try_new(
+        alloc: Global,
+        reader: R,
+        metadata: StreamMetadata,
+        projection: Option<Vec<usize>>,
+    ) -> Result<Option<StreamReader<R>>, Fault>
+        ensures tried { IfOk result (λ made.
+            TriesReader reader metadata (items_of projection) made) }
+        ensures only { IfErr result (λ e. (e ≡ Memory) × IsSome projection) }
+    {
+        let columns = metadata.schema.fields.len();
+        if !fits(&metadata.schema.fields, &metadata.ipc_schema.fields)
+            || !are_there(&projection, columns)
+        {
+            return Ok(None);
+        }
+        Ok(Some(StreamReader::new(alloc, reader, metadata, projection)?))
     }
 
     /// The content of the schema message.

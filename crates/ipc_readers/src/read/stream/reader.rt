@@ -71,7 +71,7 @@ pub(crate) struct Batches {
     pub(crate) dictionaries: Dictionaries,
     // how many dictionary batches came since the last record batch
     pub(crate) count: usize,
-    // an argument of the calls that read a batch, which don't use it
+    // an argument of the calls that read a batch; it stays empty, as a body in memory is lent
     pub(crate) scratch: Vec<u8>,
     ghost few: { count ≤ most_dictionaries },
     ghost there: { IsTrue (is_projection (asked_by projection) (length metadata.schema.fields.items)) },

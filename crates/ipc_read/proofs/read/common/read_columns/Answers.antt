@@ -56,6 +56,7 @@ loop-index-init g c =
       content = λ k.
           subst (λ (xs : List AnyArray). SoFar s vs (fields_view fs) ts c.args.limit js (left_of p n (length xs) 0) xs) (sym none)
           (so_start s vs (fields_view fs) ts c.args.limit js (left_of p n 0 0) (left_all p n));
+      scratch = omega arith;
     }
 
 pub skip-place-requires-clause-nodes : goal.skip-place-requires-clause-nodes
@@ -136,6 +137,7 @@ loop-index-preserved-then-not-is_chosen g c =
       given = omega (arith, e, c.loop-index.invariant.given);
       held = omega (arith, h, c.loop-index.invariant.held);
       content = λ k. so_same s vs (fields_view fs) ts c.args.limit (chosen p n) _ _ c.loop-index.columns.items stays (c.loop-index.invariant.content k);
+      scratch = c.loop-index.invariant.scratch;
     }
 
 pub read-requires-clause-room : goal.read-requires-clause-room
@@ -327,6 +329,7 @@ loop-index-preserved g c =
           (column_there extra ts is left i place t at listed same s vs limit (type_view f.data_type) (type_at (fields_view fs) i) (layout_of x) fronted
           (type_there fs i f inside c.index-fields-index.is) (c.in_ok-column.ensures.memory k).1)
           pushed (c.loop-index.invariant.content k));
+      scratch = omega (arith, c.in_ok-column.ensures.scratch, c.loop-index.invariant.scratch);
     }
 
 pub returns-clause-memory : goal.returns-clause-memory
@@ -347,3 +350,9 @@ returns-clause-many g c =
 
 pub returns-clause-held : goal.returns-clause-held
 returns-clause-held g c = omega (arith, c.loop-index.invariant.held)
+
+pub returns-in_err-column-clause-scratch : goal.returns-in_err-column-clause-scratch
+returns-in_err-column-clause-scratch g c = omega (arith, c.in_err-column.ensures.scratch, c.loop-index.invariant.scratch)
+
+pub returns-in_err-push-clause-scratch : goal.returns-in_err-push-clause-scratch
+returns-in_err-push-clause-scratch g c = omega (arith, c.in_ok-column.ensures.scratch, c.loop-index.invariant.scratch)

@@ -5,6 +5,7 @@ use Rattle.ipc_base.specs.IdTrees.{all_ids_view}
 use Rattle.ipc_model.specs.Batches.{chosen}
 use Rattle.ipc_model.specs.TypeKinds.{kinds_of}
 use Rattle.ipc_read_flat.specs.Bodies.{KeepsBytes, entries, known}
+use Rattle.ipc_read_flat.specs.Scratches.{KeepsScratch}
 use Rattle.ipc_read.specs.Columns.{columns_listed}
 use Rattle.ipc_read.specs.HeldChunks.{arrays_held, columns_most}
 use Rattle.ipc_read.proofs.Chosen.{AreLeft, left_of}
@@ -36,4 +37,5 @@ invariant-loop-index g l = record {
   content : IsTrue g.R.Failures.device.is_memory
       → SoFar (entries g.R.Failures.device l.body) (known l.body) (fields_view l.fields) (kinds_of (fields_view l.fields) (all_ids_view l.ids)) l.limit (chosen (option_copied l.projection) (length l.fields))
       (left_of (option_copied l.projection) (length l.fields) (length l.columns.items) l.index) l.columns.items;
+  scratch : KeepsScratch l.fn.scratch.items l.scratch.items;
 }

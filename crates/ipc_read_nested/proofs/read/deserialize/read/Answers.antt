@@ -12,4 +12,4 @@ returns-clause-memory g c = λ k.
     let s = entries g.R.Failures.device c.args.body.now in
     let u = type_view c.args.data_type.now in
     let t = kind_of u c.args.id (all_ids_view c.args.ids.now) in
-    slots_answered c.read_as.result (λ r. layout_of r.0) s (known c.args.body.now) t u c.args.place.node c.args.place.buffer c.args.limit (values_are g.R.Failures.device c.args.body.now) (c.read_as.ensures.memory k)
+    slots_answered c.read_as-column.result (λ r. layout_of r.0) s (known c.args.body.now) t u c.args.place.node c.args.place.buffer c.args.limit (values_are g.R.Failures.device c.args.body.now) (c.read_as-column.ensures.memory k)

@@ -19,7 +19,7 @@ pub loop-block-init : goal.loop-block-init
 loop-block-init g c = record {
   monotone = search rules;
   told = search rules;
-  idle = refl;
+  scratch = omega arith;
   whole = search rules;
   names = refl;
   given = none_given g.R.Failures.device.is_memory (file_seen c.args.metadata.now).schema (g.R.Failures.device.memory c.args.reader.now).whole c.dictionary_blocks-blocks.result.now (g.R.Failures.device.given c.args.reader.now);
@@ -34,7 +34,7 @@ pub loop-block-preserved : goal.loop-block-preserved
 loop-block-preserved g c = record {
   monotone = omega (arith, c.loop-block.invariant.monotone, c.in_ok-read_dictionary_block.ensures.device.monotone);
   told = c.in_ok-read_dictionary_block.ensures.device.told ∙ c.loop-block.invariant.told;
-  idle = c.in_ok-read_dictionary_block.ensures.idle ∙ c.loop-block.invariant.idle;
+  scratch = omega (arith, c.in_ok-read_dictionary_block.ensures.scratch, c.loop-block.invariant.scratch);
   whole = λ k. c.in_ok-read_dictionary_block.ensures.device.whole k ∙ c.loop-block.invariant.whole k;
   names = c.in_ok-read_dictionary_block.ensures.device.names ∙ c.loop-block.invariant.names;
   given = more_given g.R.Failures.device.is_memory (file_seen c.args.metadata.now).schema (g.R.Failures.device.memory c.args.reader.now).whole (g.R.Failures.device.memory c.loop-block.reader).whole
@@ -126,3 +126,6 @@ returns-clause-dictionaries g c =
             record { each = named.each };
       };
     }
+
+pub returns-in_err-read_dictionary_block-clause-scratch : goal.returns-in_err-read_dictionary_block-clause-scratch
+returns-in_err-read_dictionary_block-clause-scratch g c = omega (arith, c.in_err-read_dictionary_block.ensures.scratch, c.loop-block.invariant.scratch)

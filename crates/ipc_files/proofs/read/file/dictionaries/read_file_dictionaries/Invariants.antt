@@ -5,6 +5,7 @@ use Rattle.ipc_model.specs.Files.{all_of, dictionaries_after}
 use Rattle.ipc_files.specs.Dictionaries.{DictionariesReason}
 use Rattle.ipc_files.specs.Footers.{file_seen}
 use Rattle.ipc_read_flat.specs.Bodies.{array_under, known_dictionaries}
+use Rattle.ipc_read_flat.specs.Scratches.{KeepsScratch}
 use Rattle.ipc_files.proofs.HeldValues.{EachListed}
 use Rattle.ipc_files.proofs.NeededValues.{GivenFor}
 use Rattle.ipc_files.proofs.read.file.dictionaries.read_file_dictionaries.Given as goal
@@ -13,7 +14,7 @@ abbrev pub invariant-loop-block : goal.invariant-loop-block
 invariant-loop-block g l = record {
   monotone : g.R.Failures.device.failures l.fn.reader ≤ g.R.Failures.device.failures l.reader;
   told : g.R.Failures.device.failures l.reader ≡ g.R.Failures.device.failures l.fn.reader;
-  idle : l.scratch ≡ l.fn.scratch;
+  scratch : KeepsScratch l.fn.scratch.items l.scratch.items;
   whole : IsTrue g.R.Failures.device.is_read_only → (g.R.Failures.device.memory l.reader).whole ≡ (g.R.Failures.device.memory l.fn.reader).whole;
   names : g.R.Failures.device.names l.reader ≡ g.R.Failures.device.names l.fn.reader;
   given : GivenFor g.R.Failures.device.is_memory (file_seen l.metadata).schema (g.R.Failures.device.memory l.fn.reader).whole (take l.block-index l.blocks) (g.R.Failures.device.given l.fn.reader) (g.R.Failures.device.given l.reader);

@@ -1,8 +1,7 @@
-use Rattle.std.proofs.Common.{rules, refl, arith, ◌≡◌, ◌∙◌, ℕ, ℤ, true, false, Option, None, Some, Err, sym, ap, subst}
+use Rattle.std.proofs.Common.{rules, refl, arith, ◌≡◌, ◌∙◌, ℤ, true, false, Option, None, Some, Err, sym, subst}
 use Rattle.ipc_read_flat.specs.Bodies.{known_dictionaries, array_under}
 use Rattle.ipc_file_readers.proofs.Blocks.{known_already, not_unread, values_already, none_known}
-use Rattle.std.specs.Prelude.{Vec, option_map}
-use Rattle.std.specs.declared.alloc.Global.{Global}
+use Rattle.std.specs.Prelude.{option_map}
 use Rattle.lower_arrays.specs.Layouts.{Layout}
 use Rattle.ipc_model.specs.Entries.{Dictionaries}
 use Rattle.ipc_model.specs.Files.{file_dictionaries}
@@ -16,7 +15,8 @@ returns-then-is_some g c = record {
     file = record { described = refl; asked = refl; shown = refl };
     block = refl;
     remaining = refl;
-    rooms = refl;
+    room = omega arith;
+    message = refl;
     asked = record { monotone = omega arith; failed = tt; told = refl; whole = λ _. refl; names = refl; answered = tt };
     are = known_already known_dictionaries c.args.self.now.dictionaries g.R.Failures.device.is_memory _ (search rules);
     holds = values_already c.args.self.now.dictionaries g.R.Failures.device.is_memory _ _ (search rules);
@@ -43,7 +43,8 @@ returns-in_err-read g c =
         file = record { described = refl; asked = refl; shown = refl };
         block = refl;
         remaining = refl;
-        rooms = ap (λ (room : Vec ℕ Global). (room, old.message_scratch)) c.in_err-read.ensures.idle;
+        room = c.in_err-read.ensures.scratch;
+        message = refl;
         asked = record { monotone = read.device.monotone; failed = read.device.failed; told = read.device.told; whole = read.device.whole; names = read.device.names; answered = read.device.answered };
         are = tt;
         holds = tt;
@@ -73,7 +74,8 @@ returns g c =
         file = record { described = refl; asked = refl; shown = refl };
         block = refl;
         remaining = refl;
-        rooms = ap (λ (room : Vec ℕ Global). (room, old.message_scratch)) c.in_ok-read.ensures.idle;
+        room = c.in_ok-read.ensures.scratch;
+        message = refl;
         asked = record { monotone = read.device.monotone; failed = tt; told = read.device.told; whole = read.device.whole; names = read.device.names; answered = tt };
         are = (ds, refl, subst (λ (o : Option Dictionaries). AreKnown d.is_memory o (file_dictionaries m source) ds) (sym unread) read.exact);
         holds = subst (λ (o : Option Dictionaries). HoldValues d.is_memory m source o (λ id. values_in old.dictionaries id) after) (sym unread) read.bounds.held;
