@@ -5,7 +5,11 @@
 #![tactic(auto)]
 
 pub mod array;
+pub mod bitmap;
+pub mod datatypes;
 pub mod io;
+pub mod offset;
+pub mod types;
 
 pub use ipc_base::chunk;
-pub use lower::{bitmap, buffer, datatypes, error, offset, types};
+pub use lower::{buffer, error};
