@@ -8,14 +8,29 @@ use arrow2_ipc::io::ipc::write::{WriteOptions, create_file};
 use bench_devices::fixtures::make_example;
 use std::alloc::Global;
 
-/// The file of the example's chunk. A write that fails for want of memory leaves its chunk out, and
-/// a file whose buffer can't grow fails with `Io`: both are `Memory` here.
+/// The file of the example's chunk. Its errors are `Memory`.
 pub fn make_example_file(alloc: Global) -> Result<Vec<u8>, Fault> {
     let example = make_example(alloc)?;
     let chunks = vec![in alloc; example.chunk]?;
+    make_file(alloc, example.schema, &chunks)
+}
+
+/// The file of these chunks. A write that fails for want of memory leaves its chunk out, and a file
+/// whose buffer can't grow fails with `Io`: both are `Memory` here.
+pub fn make_file(
+    alloc: Global,
+    schema: Schema,
+    chunks: &[Chunk<AnyArray>],
+) -> Result<Vec<u8>, Fault> {
     let metadata = Metadata::new(alloc);
-    let options = WriteOptions::default();
-    match create_file(alloc, example.schema, None, metadata, options, &chunks) {
+    match create_file(
+        alloc,
+        schema,
+        None,
+        metadata,
+        WriteOptions::default(),
+        chunks,
+    ) {
         Ok(file) if matches!(file.answers.first(), Some(Ok(()))) => Ok(file.bytes),
         _ => Err(Fault::Memory),
     }
