@@ -14,6 +14,8 @@ pub enum Measured {
     Shared,
     /// A file.
     File,
+    /// A file of the system.
+    Device,
     /// The first column of the last block of a file.
     Block,
     /// The first column of a stream.
@@ -76,6 +78,8 @@ impl Words {
             self.measured = Measured::Shared;
         } else if word == "file" {
             self.measured = Measured::File;
+        } else if word == "device" {
+            self.measured = Measured::Device;
         } else if word == "block" {
             self.measured = Measured::Block;
         } else if word == "chosen" {

@@ -1,7 +1,7 @@
 //! Files that are timed.
 
 use crate::tables::Table;
-use ipc_devices::{Fault, MemFile};
+use ipc_devices::{Fault, MemFile, Reads, Seeks};
 use ipc_file_readers::read::reader::FileReader;
 use ipc_file_write::writer::FileWriter;
 use ipc_files::read::file::{read_batch, read_file_dictionaries, read_file_metadata};
@@ -22,10 +22,18 @@ pub fn write_file(alloc: Global, table: &Table, out: Vec<u8>) -> Result<Vec<u8>,
 
 /// How many rows the file has.
 pub fn read_file(alloc: Global, bytes: &[u8], chunks: u32) -> Result<usize, Fault> {
-    let mut input = MemFile::new(bytes);
-    let metadata = read_file_metadata(alloc, &mut input)?;
+    count_rows(alloc, MemFile::new(bytes), chunks)
+}
+
+/// The rows of the first `chunks` chunks of a file together.
+pub fn count_rows<R: Reads + Seeks + Drop>(
+    alloc: Global,
+    mut device: R,
+    chunks: u32,
+) -> Result<usize, Fault> {
+    let metadata = read_file_metadata(alloc, &mut device)?;
     let mut rows = 0usize;
-    for chunk in FileReader::new(alloc, input, metadata, None, None)?.take(chunks as usize) {
+    for chunk in FileReader::new(alloc, device, metadata, None, None)?.take(chunks as usize) {
         rows = rows.saturating_add(chunk?.len());
     }
     Ok(rows)

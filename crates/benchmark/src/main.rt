@@ -1,26 +1,29 @@
 //! Measures writing and reading of streams and files, compared with plain copies.
 //!
-//! `benchmark [big] [shared|file|chosen|block] [KIND] ROWS COLUMNS ROUNDS [CHUNKS]` writes a stream
-//! to memory that is reused, and reads it back. For each it prints the least time of all rounds.
+//! `benchmark [big] [shared|file|device|chosen|block] [KIND] ROWS COLUMNS ROUNDS [CHUNKS]` writes a
+//! stream to memory that is reused, and reads it back. For each it prints the least time of all
+//! rounds.
 //!
 //! - KIND: the values of the columns: `int64` (the default), `nulls`, `bits3`, `boolean`, `list`,
 //!   `utf8`, `struct`, `dictionary`, `values` or `mixed`.
 //! - ROWS: the rows of each chunk. CHUNKS: how many chunks there are; 1 by default.
 //! - `big`: writes numbers in big-endian order.
 //! - `shared`: reads from memory that the columns may share.
-//! - `file`: writes and reads a file instead.
+//! - `file`: writes and reads a file instead, in memory.
+//! - `device`: reads a file of the system, `benchmark.arrow`, which it makes and removes.
 //! - `chosen`: reads one column of a stream, and the same column in a stream of its own.
 //! - `block`: reads one column of the last block of a file.
 //!
-//! Writing is compared with a copy into memory that is reused, reading with one into fresh memory.
-//! Of shared texts it also prints how long checking them and copying their offsets takes, which
-//! reading them includes.
+//! Writing is compared with a copy into memory that is reused, reading with one into fresh memory:
+//! for `device`, with plain reads of the file by 65,536 bytes into fresh memory. Of shared texts it
+//! also prints how long checking them and copying their offsets takes, which reading them includes.
 //! Without three or four numbers it does nothing; unknown words are ignored.
 #![tactic(auto)]
 
 mod asked;
 mod checked;
 mod columns;
+mod devices;
 mod files;
 mod streams;
 mod tables;
@@ -29,6 +32,7 @@ mod times;
 use crate::asked::{Asked, Measured, Size, read_words};
 use crate::checked::best_checked;
 use crate::columns::Kind;
+use crate::devices::best_of_device;
 use crate::tables::{Table, make_table};
 use crate::times::{best_of, print};
 use ipc_devices::Fault;
@@ -53,6 +57,32 @@ fn run<R: Runtime>(rt: &R, alloc: Global, table: &Table, asked: &Asked) -> Resul
         let checked = best_checked(rt, alloc, table, asked.rounds)?;
         print(rt, "check texts, copy offsets", checked, best.copy, bytes)?;
     }
+    Ok(())
+}
+
+// Reads a table from a file of the system.
+fn run_device<R: Runtime>(
+    rt: &R,
+    alloc: Global,
+    table: &Table,
+    asked: &Asked,
+) -> Result<(), Fault> {
+    let (best, bytes) = best_of_device(rt, alloc, table, asked.rounds)?;
+    print(rt, "read", best.read, best.fresh, bytes)?;
+    print(
+        rt,
+        "plain reads into the same memory",
+        best.again,
+        best.fresh,
+        bytes,
+    )?;
+    print(
+        rt,
+        "plain reads into fresh memory",
+        best.fresh,
+        best.fresh,
+        bytes,
+    )?;
     Ok(())
 }
 
@@ -94,6 +124,7 @@ fn main(rt: HostRuntime) -> Result<(), Fault> {
     let table = make_table(alloc, asked.kind, asked.size, asked.options)?;
     match asked.measured {
         Measured::Stream | Measured::Shared | Measured::File => run(&rt, alloc, &table, &asked),
+        Measured::Device => run_device(&rt, alloc, &table, &asked),
         Measured::Block => run_block(&rt, alloc, &table, &asked),
         Measured::Chosen => {
             let one = Size {

@@ -49,7 +49,7 @@ fn time_write<R: Runtime>(
     let start = Instant::now(rt)?;
     let taken = replace(out, Vec::new(alloc));
     *out = match measured {
-        Measured::File | Measured::Block => write_file(alloc, table, taken)?,
+        Measured::File | Measured::Device | Measured::Block => write_file(alloc, table, taken)?,
         Measured::Stream | Measured::Shared | Measured::Chosen => {
             write_stream(alloc, table, taken)?
         }
@@ -80,7 +80,7 @@ fn time_read<R: Runtime>(
     match measured {
         Measured::Block => time_block(rt, alloc, bytes),
         Measured::Shared => time_shared(rt, alloc, table, bytes),
-        Measured::Stream | Measured::File | Measured::Chosen => {
+        Measured::Stream | Measured::File | Measured::Device | Measured::Chosen => {
             time_chunks(rt, alloc, table, measured, bytes)
         }
     }
@@ -118,7 +118,9 @@ fn time_chunks<R: Runtime>(
     let start = Instant::now(rt)?;
     let rows = match measured {
         Measured::Stream | Measured::Shared => read_stream(alloc, bytes, table.chunks)?,
-        Measured::File | Measured::Block => read_file(alloc, bytes, table.chunks)?,
+        Measured::File | Measured::Device | Measured::Block => {
+            read_file(alloc, bytes, table.chunks)?
+        }
         Measured::Chosen => read_first(alloc, bytes, table.chunks)?,
     };
     let time = start.elapsed(rt)?;
