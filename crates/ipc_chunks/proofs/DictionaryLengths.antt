@@ -60,6 +60,11 @@ refused_here xs i y e inside is h = subst (λ (ls : List Layout). RefusesAnyLeng
 pub none_left : (xs : List AnyArray) (i : ℕ) → length xs ≤ i → AllByRecursion HasLengths (left_from xs i)
 none_left xs i h = subst (λ (ys : List AnyArray). AllByRecursion HasLengths (dictionaries_in (layouts (map layout_of ys)))) (sym (drop_all i xs h)) tt
 
+-- A column without dictionaries.
+pub none_here : (ls ks : List Layout) → ls ≡ [] → ks ≡ [] → AllByRecursion HasLengths (ls ++ ks)
+none_here ls ks e f =
+    subst (λ (xs : List Layout). AllByRecursion HasLengths (xs ++ ks)) (sym e) (subst (λ (ys : List Layout). AllByRecursion HasLengths ys) (sym f) tt)
+
 -- The dictionaries below a column, and then its own.
 pub lengths_then : (ls ks js : List Layout) (r : Result (Unit {0}) Fault) → ls ≡ ks → AllByRecursion HasLengths ls → AnswersLengths r js → AnswersLengths r (ks ++ js)
 lengths_then ls ks js (Ok x) e f g = all_both HasLengths ks js (subst (λ (is : List Layout). AllByRecursion HasLengths is) e f) g

@@ -1,5 +1,5 @@
 -- Columns without a schema, as those of their own types.
-use Rattle.std.proofs.Common.{◌≡◌, List, [], ◌∷◌, refl}
+use Rattle.std.proofs.Common.{List, [], ◌∷◌, refl}
 use Rattle.std.specs.List.{AllByRecursion}
 use Rattle.lower_arrays.specs.Layouts.{Layout, layouts}
 use Rattle.lower_arrays.specs.Slots.{AreArrays}

@@ -1,5 +1,6 @@
 //! Checks the lengths of a chunk's dictionaries, also of those that needn't be written.
-ghost use Rattle.std.specs.Prelude.{◌≡◌, ◌≤◌, ◌++◌, map, MatchResult};
+ghost use Rattle.std.specs.Prelude.{◌≡◌, ◌≤◌, ◌++◌, [], map, IsTrue, MatchResult};
+ghost use Rattle.std.specs.List.{AllByRecursion};
 ghost use Rattle.lower_arrays.specs.AnyLayouts.{layout_of};
 ghost use Rattle.lower_arrays.specs.Layouts.{height, heights, layouts};
 ghost use Rattle.ipc_chunks.specs.Lengths.{AnswersLengths, HasLengths, RefusesLengths, dictionaries_below, dictionaries_in, own_dictionaries};
@@ -10,6 +11,49 @@ use lower::types::Endianness;
 use lower_arrays::array::AnyArray;
 use std::alloc::Global;
 use std::slice;
+
+/// Refuses columns of a chunk with a dictionary that is too long for a message.
+///
+/// Most chunks have no dictionary, which is found at once. The errors are those of
+/// [`check_lengths`].
+pub fn check_dictionaries(alloc: Global, columns: &[AnyArray]) -> Result<(), Fault>
+    ensures { AnswersLengths result (dictionaries_in (layouts (map layout_of columns.now))) }
+{
+    if are_flat(columns) {
+        return Ok(());
+    }
+    check_lengths(alloc, columns)
+}
+
+// Whether no array is a dictionary, or has others below it.
+fn are_flat(arrays: &[AnyArray]) -> bool
+    ensures { IsTrue result
+        → AllByRecursion HasLengths (dictionaries_in (layouts (map layout_of arrays.now))) }
+{
+    for array in arrays {
+        if !is_flat(array) {
+            return false;
+        }
+    }
+    true
+}
+
+// Whether an array is neither a dictionary nor has others below it.
+fn is_flat(array: &AnyArray) -> bool
+    ensures below { IsTrue result → dictionaries_below (layout_of array.now) ≡ [] }
+    ensures own { IsTrue result → own_dictionaries (layout_of array.now) ≡ [] }
+{
+    match array {
+        AnyArray::List(_) => false,
+        AnyArray::LargeList(_) => false,
+        AnyArray::FixedSizeList(_) => false,
+        AnyArray::Struct(_) => false,
+        AnyArray::Union(_) => false,
+        AnyArray::Map(_) => false,
+        AnyArray::Dictionary(_) => false,
+        _ => true,
+    }
+}
 
 /// Refuses columns with a dictionary that is too long for a message.
 ///

@@ -15,7 +15,7 @@ ghost use Rattle.ipc_tracker.specs.Trackers.{remembered};
 ghost use Rattle.ipc_chunks.specs.Lengths.{HaveLengths};
 ghost use Rattle.ipc_chunks.specs.Messages.{AreAllValues, AreMessages, AreSendable, AreValueMessages, HaveWholeBodies, HasWholeBody, RefusesAllValues, RefusesMessages, RefusesPlaces, RefusesValues, dictionaries_seen, message_seen};
 
-use crate::lengths::check_lengths;
+use crate::lengths::check_dictionaries;
 use ipc_base::chunk::Chunk;
 use ipc_base::ipc::IpcField;
 use ipc_devices::Fault;
@@ -62,7 +62,7 @@ pub fn list_messages(
         tracker.now.cannot_replace (map layout_of columns.now) (all_ids_view ids.now)) }
 {
     let list = list_dictionaries(alloc, tracker, columns, ids)?;
-    check_lengths(alloc, columns)?;
+    check_dictionaries(alloc, columns)?;
     Ok(list)
 }
 

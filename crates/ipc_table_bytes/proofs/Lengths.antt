@@ -1,5 +1,5 @@
 -- How long the bytes of a number and padded bytes are.
-use Rattle.std.proofs.Common.{◌≡◌, ℕ, ◌+◌, ◌-◌, ◌%◌, List, ◌++◌, length, arith, length-append}
+use Rattle.std.proofs.Common.{◌≡◌, ℕ, ◌-◌, ◌%◌, List, length, arith, length-append}
 use Rattle.std.proofs.lemmas.List.{length-replicate}
 use Rattle.byteorder.specs.Numbers.{length-bytes_low_first}
 use Rattle.ipc_table_bytes.specs.Pads.{le, missing, zeros, padded}

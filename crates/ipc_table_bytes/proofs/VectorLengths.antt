@@ -1,9 +1,9 @@
 -- How long the bytes of texts and vectors are.
-use Rattle.std.proofs.Common.{◌≡◌, ℕ, ◌+◌, ◌*◌, List, [], ◌∷◌, ◌++◌, length, refl, arith, length-append}
+use Rattle.std.proofs.Common.{◌≡◌, ℕ, ◌+◌, ◌*◌, List, [], ◌∷◌, ◌++◌, length, refl, ap, ◌∙◌, arith, length-append}
 use Rattle.std.proofs.lemmas.List.{length-replicate}
 use Rattle.ipc_table_bytes.specs.declared.build.Built.{Built}
-use Rattle.ipc_table_bytes.specs.Pads.{le, missing, short, zeros}
-use Rattle.ipc_table_bytes.specs.Parts.{elements_bytes, gap_after, joined_parts, offsets, text_bytes, vector_bytes}
+use Rattle.ipc_table_bytes.specs.Pads.{le, missing, padded, short, zeros}
+use Rattle.ipc_table_bytes.specs.Parts.{elements_bytes, elements_header, gap_after, joined_parts, offsets, text_bytes, vector_bytes}
 use Rattle.ipc_table_bytes.specs.Sizes.{whole}
 use Rattle.ipc_table_bytes.proofs.Lengths.{length-le}
 
@@ -43,3 +43,8 @@ length-elements count raw =
     let long : length all ≡ 8 + length raw =
     omega (arith, length-append (le 4 0 ++ le 4 (short count)) raw, length-append (le 4 0) (le 4 (short count)), length-le 4 0, length-le 4 (short count)) in
     omega (arith, length-append all (zeros (missing (length all))), length-replicate {A = ℕ} (missing (length all)) 0)
+
+-- a vector of elements, once its header and its elements are padded
+pub elements-done : (bytes out : List ℕ) (count : ℕ) (raw : List ℕ) → out ≡ padded bytes → bytes ≡ elements_header count ++ raw → out ≡ elements_bytes count raw
+unfolding elements_bytes
+elements-done bytes out count raw done is = done ∙ ap (λ (r : List ℕ). padded r) is

@@ -81,9 +81,13 @@ vector_bytes parts =
 unfoldable pub text_bytes : List ℕ → List ℕ
 text_bytes s = padded ((le 4 (short (length s)) ++ s) ++ 0 ∷ [])
 
+-- The bytes before the elements of a vector of elements that have no offset.
+abbrev pub elements_header : ℕ → List ℕ
+elements_header count = le 4 0 ++ le 4 (short count)
+
 -- The bytes of a vector of elements that have no offset.
 unfoldable pub elements_bytes : ℕ → List ℕ → List ℕ
-elements_bytes count raw = padded ((le 4 0 ++ le 4 (short count)) ++ raw)
+elements_bytes count raw = padded (elements_header count ++ raw)
 
 -- A message has these bytes at offset p.
 pub record Stands (m : List ℕ) (p : ℕ) (xs : List ℕ) : Type 0 where

@@ -1,9 +1,10 @@
 //! Encoded parts of a message, and helpers that append to them.
-ghost use Rattle.std.specs.Prelude.{◌≡◌, ◌<◌, ◌%◌, ◌^◌, ◌++◌, ◌+◌, IfOk, OnOk, length};
+ghost use Rattle.std.specs.Prelude.{◌≡◌, ◌<◌, ◌%◌, ◌^◌, ◌++◌, ◌+◌, [], IfOk, OnOk, length};
 ghost use Rattle.ipc_table_bytes.specs.Pads.{le, padded, short, zeros};
 ghost use Rattle.ipc_table_bytes.specs.Sizes.{whole};
 
-use std::alloc::AllocError;
+use std::alloc::{AllocError, Global};
+use std::mem::replace;
 
 /// The bytes of a part and of everything it refers to.
 ///
@@ -25,6 +26,66 @@ pub enum Slot {
     Number(u64),
     /// A part that the slot refers to.
     Offset(Built),
+}
+
+/// Memory of parts that are no longer needed, in which the next parts are built.
+#[derive(Drop)]
+pub struct Pool {
+    alloc: Global,
+    free: Vec<Vec<u8>>,
+}
+
+impl Pool {
+    /// Returns a pool without memory. It allocates nothing.
+    pub fn new(alloc: Global) -> Pool {
+        Pool {
+            alloc,
+            free: Vec::new(alloc),
+        }
+    }
+
+    // An empty vector with room for `capacity` bytes.
+    pub(crate) fn take(&mut self, capacity: usize) -> Result<Vec<u8>, AllocError>
+        ensures { IfOk result (λ bytes. bytes.items ≡ []) }
+    {
+        let mut bytes = match self.free.pop() {
+            Some(bytes) => bytes,
+            None => Vec::new(self.alloc),
+        };
+        bytes.clear();
+        bytes.reserve(capacity)?;
+        Ok(bytes)
+    }
+
+    /// Returns the allocator of the parts.
+    pub fn alloc(&self) -> Global {
+        self.alloc
+    }
+
+    /// Takes the memory of a part. It fails only if an allocation fails.
+    pub fn give(&mut self, part: Built) -> Result<(), AllocError> {
+        self.free.push(part.bytes).map_err(AllocError::from)
+    }
+
+    /// Takes the memory of some parts. It fails only if an allocation fails.
+    pub fn give_parts(&mut self, parts: Vec<Built>) -> Result<(), AllocError> {
+        for part in parts {
+            self.give(part)?;
+        }
+        Ok(())
+    }
+
+    /// Takes the memory of the parts in these slots, which become absent.
+    ///
+    /// It fails only if an allocation fails.
+    pub fn give_slots(&mut self, slots: &mut [Slot]) -> Result<(), AllocError> {
+        for slot in slots.iter_mut() {
+            if let Slot::Offset(part) = replace(slot, Slot::Absent) {
+                self.give(part)?;
+            }
+        }
+        Ok(())
+    }
 }
 
 // A length or an offset as 32 bits, at most `u32::MAX`. A message in which that changes it is too

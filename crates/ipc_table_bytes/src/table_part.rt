@@ -3,8 +3,8 @@ ghost use Rattle.std.specs.Prelude.{◌≡◌, ◌<◌, ◌^◌, ◌++◌, ◌+�
 ghost use Rattle.ipc_table_bytes.specs.Parts.{AreSlots, IsPart, entry_of, number_in, numbers, tail_of, tails, vtable_bytes};
 ghost use Rattle.ipc_table_bytes.specs.Tree.{Slots, table};
 
-use crate::build::{Built, Slot, pad, put_u16, put_u64, together, whole};
-use std::alloc::{AllocError, Global};
+use crate::build::{Built, Pool, Slot, pad, put_u16, put_u64, together, whole};
+use std::alloc::AllocError;
 
 fn entry_of(index: usize, slot: &Slot) -> u16
     requires { index < 1000 }
@@ -17,11 +17,11 @@ fn entry_of(index: usize, slot: &Slot) -> u16
 }
 
 // The vtable, padded to a multiple of 8, in a vector with room for `capacity` bytes.
-fn vtable(alloc: Global, capacity: usize, slots: &[Slot]) -> Result<Vec<u8>, AllocError>
+fn vtable(pool: &mut Pool, capacity: usize, slots: &[Slot]) -> Result<Vec<u8>, AllocError>
     requires { length slots.now < 1000 }
     ensures { IfOk result (λ v. v.items ≡ vtable_bytes slots.now) }
 {
-    let mut bytes = Vec::with_capacity(alloc, capacity)?;
+    let mut bytes = pool.take(capacity)?;
     put_u16(&mut bytes, (4 + 2 * slots.len()) as u16)?;
     put_u16(&mut bytes, (8 + 8 * slots.len()) as u16)?;
     for (i, slot) in slots.iter().enumerate() {
@@ -34,13 +34,13 @@ fn vtable(alloc: Global, capacity: usize, slots: &[Slot]) -> Result<Vec<u8>, All
 /// Returns a table: its vtable, 8 bytes for each slot, and then the parts that its slots refer to.
 ///
 /// It fails only if an allocation fails.
-pub fn table(alloc: Global, slots: &[Slot]) -> Result<Built, AllocError>
+pub fn table(pool: &mut Pool, slots: &[Slot]) -> Result<Built, AllocError>
     requires { length slots.now < 1000 }
     ensures { (xs : Slots) → AreSlots slots.now xs → IfOk result (λ built. IsPart built (table xs)) }
 {
     let tails = tails_len(slots)?;
     let len = whole(4 + 2 * slots.len()) + 8 + 8 * slots.len() + tails;
-    let mut bytes = vtable(alloc, len, slots)?;
+    let mut bytes = vtable(pool, len, slots)?;
     let entry = bytes.len();
     put_u64(&mut bytes, entry as u64)?;
     put_numbers(&mut bytes, slots)?;

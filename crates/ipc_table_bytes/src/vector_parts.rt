@@ -1,18 +1,18 @@
 //! Encodes texts and vectors.
-ghost use Rattle.std.specs.Prelude.{ℕ, ◌≡◌, ◌<◌, ◌%◌, ◌^◌, ◌++◌, ◌+◌, ◌*◌, IfOk, OnOk, length};
+ghost use Rattle.std.specs.Prelude.{ℕ, ◌≡◌, ◌<◌, ◌%◌, ◌^◌, List, ◌++◌, ◌+◌, ◌*◌, IfOk, OnOk, length};
 ghost use Rattle.ipc_table_bytes.specs.Pads.{short};
-ghost use Rattle.ipc_table_bytes.specs.Parts.{AreParts, IsPart, elements_bytes, gap_after, joined_parts, offsets, text_bytes, vector_bytes};
+ghost use Rattle.ipc_table_bytes.specs.Parts.{AreParts, IsPart, elements_header, gap_after, joined_parts, offsets, text_bytes, vector_bytes};
 ghost use Rattle.ipc_table_bytes.specs.Tree.{Parts, elements, tables, text};
 
-use crate::build::{Built, pad, put_u32, put_zeros, short, together, whole};
-use std::alloc::{AllocError, Global};
+use crate::build::{Built, Pool, pad, put_u32, put_zeros, short, together, whole};
+use std::alloc::AllocError;
 
 #[tactic(auto, unfolding(crate::specs::Parts::text_bytes))]
-fn text_bytes(alloc: Global, content: &str) -> Result<Vec<u8>, AllocError>
+fn text_bytes(pool: &mut Pool, content: &str) -> Result<Vec<u8>, AllocError>
     ensures items { IfOk result (λ bytes. bytes.items ≡ text_bytes content.now) }
     ensures whole { IfOk result (λ bytes. length bytes.items % 8 ≡ 0) }
 {
-    let mut bytes = Vec::with_capacity(alloc, whole(4 + content.len() + 1))?;
+    let mut bytes = pool.take(whole(4 + content.len() + 1))?;
     put_u32(&mut bytes, short(content.len()))?;
     bytes.extend_from_slice(content.as_bytes())?;
     bytes.push(0).map_err(AllocError::from)?;
@@ -21,34 +21,37 @@ fn text_bytes(alloc: Global, content: &str) -> Result<Vec<u8>, AllocError>
 }
 
 /// Returns a text: its length, its bytes and a zero byte. It fails only if an allocation fails.
-pub fn text(alloc: Global, content: &str) -> Result<Built, AllocError>
+pub fn text(pool: &mut Pool, content: &str) -> Result<Built, AllocError>
     ensures { IfOk result (λ built. IsPart built (text content.now)) }
 {
-    let bytes = text_bytes(alloc, content)?;
+    let bytes = text_bytes(pool, content)?;
     Ok(Built { bytes, entry: 0 })
 }
 
-#[tactic(auto, unfolding(crate::specs::Parts::elements_bytes))]
-fn elements_bytes(alloc: Global, count: usize, raw: &[u8]) -> Result<Vec<u8>, AllocError>
-    ensures items { IfOk result (λ bytes. bytes.items ≡ elements_bytes count raw.now) }
-    ensures whole { IfOk result (λ bytes. length bytes.items % 8 ≡ 0) }
+/// Returns the header of a vector of `count` elements, with room for `len` bytes of elements.
+///
+/// The bytes of the elements are appended to it; then [`elements`] makes it the vector. It fails
+/// only if an allocation fails.
+pub fn elements_header(pool: &mut Pool, count: usize, len: usize) -> Result<Vec<u8>, AllocError>
+    ensures { IfOk result (λ bytes. bytes.items ≡ elements_header count) }
 {
-    let mut bytes = Vec::with_capacity(alloc, whole(8 + raw.len()))?;
+    let mut bytes = pool.take(len.saturating_add(16))?;
     put_u32(&mut bytes, 0)?;
     put_u32(&mut bytes, short(count))?;
-    bytes.extend_from_slice(raw)?;
-    pad(&mut bytes)?;
     Ok(bytes)
 }
 
-/// Returns a vector of `count` elements without offsets, of which `raw` is the bytes.
+/// Returns a vector of elements without offsets, of which `bytes` is the header and the elements.
 ///
 /// The first element is at a multiple of 8. It fails only if an allocation fails.
-pub fn elements(alloc: Global, count: usize, raw: &[u8]) -> Result<Built, AllocError>
-    ensures { (align size : ℕ) → 8 % align ≡ 0 → 0 < size → length raw.now ≡ size * count
-        → IfOk result (λ built. IsPart built (elements align size count raw.now)) }
+pub fn elements(bytes: Vec<u8>) -> Result<Built, AllocError>
+    ensures { (align size count : ℕ) → (raw : List ℕ)
+        → bytes.items ≡ elements_header count ++ raw
+        → 8 % align ≡ 0 → 0 < size → length raw ≡ size * count
+        → IfOk result (λ built. IsPart built (elements align size count raw)) }
 {
-    let bytes = elements_bytes(alloc, count, raw)?;
+    let mut bytes = bytes;
+    pad(&mut bytes)?;
     Ok(Built { bytes, entry: 4 })
 }
 
@@ -109,13 +112,13 @@ fn put_joined(bytes: &mut Vec<u8>, parts: &[Built]) -> Result<(), AllocError>
     Ok(())
 }
 
-fn vector_bytes(alloc: Global, parts: &[Built]) -> Result<Vec<u8>, AllocError>
+fn vector_bytes(pool: &mut Pool, parts: &[Built]) -> Result<Vec<u8>, AllocError>
     ensures items { IfOk result (λ bytes. bytes.items ≡ vector_bytes parts.now) }
     ensures whole { IfOk result (λ bytes. length bytes.items % 8 ≡ 0) }
 {
     let gap = gap_after(parts);
     let len = 4 + 4 * parts.len() + gap + joined_len(parts)?;
-    let mut bytes = Vec::with_capacity(alloc, len)?;
+    let mut bytes = pool.take(len)?;
     put_u32(&mut bytes, short(parts.len()))?;
     put_offsets(&mut bytes, gap, parts)?;
     put_zeros(&mut bytes, gap)?;
@@ -126,9 +129,9 @@ fn vector_bytes(alloc: Global, parts: &[Built]) -> Result<Vec<u8>, AllocError>
 /// Returns a vector of tables or texts: its count, an offset to each, and the parts.
 ///
 /// It fails only if an allocation fails.
-pub fn tables(alloc: Global, parts: &[Built]) -> Result<Built, AllocError>
+pub fn tables(pool: &mut Pool, parts: &[Built]) -> Result<Built, AllocError>
     ensures { (xs : Parts) → AreParts parts.now xs → IfOk result (λ built. IsPart built (tables xs)) }
 {
-    let bytes = vector_bytes(alloc, parts)?;
+    let bytes = vector_bytes(pool, parts)?;
     Ok(Built { bytes, entry: 0 })
 }

@@ -5,8 +5,8 @@ ghost use Rattle.ipc_table_bytes.specs.Parts.{IsPart};
 ghost use Rattle.ipc_tables.specs.Elements.{elements_of};
 ghost use Rattle.ipc_tables.specs.Slots.{IsOptional};
 
-use ipc_table_bytes::{Built, Slot, elements};
-use std::alloc::{AllocError, Global};
+use ipc_table_bytes::{Built, Pool, Slot, elements, elements_header};
+use std::alloc::AllocError;
 
 /// An element without offsets: a struct, or a number.
 pub(crate) trait Element: Copy + Drop {
@@ -35,27 +35,29 @@ pub(crate) trait Element: Copy + Drop {
     ghost aligned: { 8 % align ≡ 0 };
 }
 
-fn bytes_of<S: Element>(alloc: Global, values: &[S]) -> Result<Vec<u8>, AllocError>
-    ensures { IfOk result (λ bytes. bytes.items ≡ flat_map S.spelt values.now) }
+// Appends the bytes of some elements.
+fn put_all<S: Element>(bytes: &mut Vec<u8>, values: &[S]) -> Result<(), AllocError>
+    ensures { OnOk result (bytes.new.items ≡ bytes.old.items ++ flat_map S.spelt values.now) }
 {
-    let mut bytes = Vec::with_capacity(alloc, S::len().saturating_mul(values.len()))?;
     for value in values {
-        value.put(&mut bytes)?;
+        value.put(bytes)?;
     }
-    Ok(bytes)
+    Ok(())
 }
 
 /// Returns the vector of some elements.
-pub(crate) fn elements_part<S: Element>(alloc: Global, values: &[S]) -> Result<Built, AllocError>
+pub(crate) fn elements_part<S: Element>(pool: &mut Pool, values: &[S]) -> Result<Built, AllocError>
     ensures { IfOk result (λ built. IsPart built (elements_of S.align S.size S.spelt values.now)) }
 {
-    let bytes = bytes_of(alloc, values)?;
-    elements(alloc, values.len(), bytes.as_slice())
+    let len = S::len().saturating_mul(values.len());
+    let mut bytes = elements_header(pool, values.len(), len)?;
+    put_all(&mut bytes, values)?;
+    elements(bytes)
 }
 
 /// Returns the slot for a vector of some elements, or an absent slot.
 pub(crate) fn elements_slot<S: Element>(
-    alloc: Global,
+    pool: &mut Pool,
     values: &Option<Vec<S>>,
 ) -> Result<Slot, AllocError>
     ensures { IfOk result (λ slot. IsOptional slot
@@ -63,6 +65,6 @@ pub(crate) fn elements_slot<S: Element>(
 {
     match values {
         None => Ok(Slot::Absent),
-        Some(values) => Ok(Slot::Offset(elements_part(alloc, values.as_slice())?)),
+        Some(values) => Ok(Slot::Offset(elements_part(pool, values.as_slice())?)),
     }
 }

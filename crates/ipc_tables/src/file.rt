@@ -11,7 +11,7 @@ ghost use Rattle.ipc_tables.specs.Slots.{IsOptional};
 use crate::elements::{Element, elements_slot};
 use crate::schema::{KeyValue, Schema, optional_pairs, schema_part, version_number};
 use ipc_devices::fault::Fault;
-use ipc_table_bytes::{Built, Slot, message, put_u32, put_u64, table};
+use ipc_table_bytes::{Built, Pool, Slot, message, put_u32, put_u64, table};
 use ipc_table_views::{Block, MetadataVersion};
 use std::alloc::{AllocError, Global};
 
@@ -57,24 +57,24 @@ impl Element for Block {
     }
 }
 
-fn schema_slot(alloc: Global, schema: &Option<Schema>) -> Result<Slot, AllocError>
+fn schema_slot(pool: &mut Pool, schema: &Option<Schema>) -> Result<Slot, AllocError>
     ensures { IfOk result (λ slot. IsOptional slot (option_map (λ s. table (schema_slots s)) schema.now)) }
 {
     match schema {
         None => Ok(Slot::Absent),
-        Some(schema) => Ok(Slot::Offset(schema_part(alloc, schema)?)),
+        Some(schema) => Ok(Slot::Offset(schema_part(pool, schema)?)),
     }
 }
 
-fn footer_part(alloc: Global, footer: &Footer) -> Result<Built, AllocError>
+fn footer_part(pool: &mut Pool, footer: &Footer) -> Result<Built, AllocError>
     ensures { IfOk result (λ built. IsPart built (table (footer_slots footer.now))) }
 {
-    let schema = schema_slot(alloc, &footer.schema)?;
-    let dictionaries = elements_slot(alloc, &footer.dictionaries)?;
-    let record_batches = elements_slot(alloc, &footer.record_batches)?;
-    let pairs = optional_pairs(alloc, &footer.custom_metadata)?;
+    let schema = schema_slot(pool, &footer.schema)?;
+    let dictionaries = elements_slot(pool, &footer.dictionaries)?;
+    let record_batches = elements_slot(pool, &footer.record_batches)?;
+    let pairs = optional_pairs(pool, &footer.custom_metadata)?;
     table(
-        alloc,
+        pool,
         &[
             Slot::Number(version_number(footer.version)),
             schema,
@@ -99,6 +99,7 @@ impl Footer {
         ensures reads { (levels : ℕ) → IfOk result (λ bytes.
             HaveRoot bytes.items (IsFooter levels) self.now) }
     {
-        message(alloc, &footer_part(alloc, self)?)
+        let mut pool = Pool::new(alloc);
+        message(alloc, &footer_part(&mut pool, self)?)
     }
 }

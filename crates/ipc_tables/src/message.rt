@@ -12,7 +12,7 @@ use crate::elements::{Element, elements_part};
 use crate::schema::{KeyValue, Schema, optional_pairs, schema_part, version_number};
 use crate::slots::{flag, long};
 use ipc_devices::fault::Fault;
-use ipc_table_bytes::{Built, Slot, message, put_u64, table};
+use ipc_table_bytes::{Built, Pool, Slot, message, put_u64, table};
 use ipc_table_views::{Buffer, FieldNode, MetadataVersion};
 use std::alloc::{AllocError, Global};
 
@@ -148,11 +148,11 @@ fn method_number(method: BodyCompressionMethod) -> u64
     }
 }
 
-fn compression_part(alloc: Global, compression: BodyCompression) -> Result<Built, AllocError>
+fn compression_part(pool: &mut Pool, compression: BodyCompression) -> Result<Built, AllocError>
     ensures { IfOk result (λ built. IsPart built (table (compression_slots compression))) }
 {
     table(
-        alloc,
+        pool,
         &[
             Slot::Number(codec_number(compression.codec)),
             Slot::Number(method_number(compression.method)),
@@ -160,23 +160,26 @@ fn compression_part(alloc: Global, compression: BodyCompression) -> Result<Built
     )
 }
 
-fn compression_slot(alloc: Global, compression: Option<BodyCompression>) -> Result<Slot, AllocError>
+fn compression_slot(
+    pool: &mut Pool,
+    compression: Option<BodyCompression>,
+) -> Result<Slot, AllocError>
     ensures { IfOk result (λ slot. IsOptional slot (option_map (λ c. table (compression_slots c)) compression)) }
 {
     match compression {
         None => Ok(Slot::Absent),
-        Some(compression) => Ok(Slot::Offset(compression_part(alloc, compression)?)),
+        Some(compression) => Ok(Slot::Offset(compression_part(pool, compression)?)),
     }
 }
 
-fn record_batch_part(alloc: Global, batch: &RecordBatch) -> Result<Built, AllocError>
+fn record_batch_part(pool: &mut Pool, batch: &RecordBatch) -> Result<Built, AllocError>
     ensures { IfOk result (λ built. IsPart built (table (record_batch_slots batch.now))) }
 {
-    let nodes = elements_part(alloc, batch.nodes.as_slice())?;
-    let buffers = elements_part(alloc, batch.buffers.as_slice())?;
-    let compression = compression_slot(alloc, batch.compression)?;
+    let nodes = elements_part(pool, batch.nodes.as_slice())?;
+    let buffers = elements_part(pool, batch.buffers.as_slice())?;
+    let compression = compression_slot(pool, batch.compression)?;
     table(
-        alloc,
+        pool,
         &[
             Slot::Number(long(batch.length)),
             Slot::Offset(nodes),
@@ -186,21 +189,21 @@ fn record_batch_part(alloc: Global, batch: &RecordBatch) -> Result<Built, AllocE
     )
 }
 
-fn record_batch_slot(alloc: Global, batch: &Option<RecordBatch>) -> Result<Slot, AllocError>
+fn record_batch_slot(pool: &mut Pool, batch: &Option<RecordBatch>) -> Result<Slot, AllocError>
     ensures { IfOk result (λ slot. IsOptional slot (option_map (λ b. table (record_batch_slots b)) batch.now)) }
 {
     match batch {
         None => Ok(Slot::Absent),
-        Some(batch) => Ok(Slot::Offset(record_batch_part(alloc, batch)?)),
+        Some(batch) => Ok(Slot::Offset(record_batch_part(pool, batch)?)),
     }
 }
 
-fn dictionary_batch_part(alloc: Global, batch: &DictionaryBatch) -> Result<Built, AllocError>
+fn dictionary_batch_part(pool: &mut Pool, batch: &DictionaryBatch) -> Result<Built, AllocError>
     ensures { IfOk result (λ built. IsPart built (table (dictionary_batch_slots batch.now))) }
 {
-    let data_ = record_batch_slot(alloc, &batch.data_)?;
+    let data_ = record_batch_slot(pool, &batch.data_)?;
     table(
-        alloc,
+        pool,
         &[
             Slot::Number(long(batch.id)),
             data_,
@@ -220,23 +223,23 @@ fn header_tag(header: &MessageHeader) -> u64
     }
 }
 
-fn header_part(alloc: Global, header: &MessageHeader) -> Result<Built, AllocError>
+fn header_part(pool: &mut Pool, header: &MessageHeader) -> Result<Built, AllocError>
     ensures { IfOk result (λ built. IsPart built (table (header_slots header.now))) }
 {
     match header {
-        MessageHeader::Schema(schema) => schema_part(alloc, schema),
-        MessageHeader::DictionaryBatch(batch) => dictionary_batch_part(alloc, batch),
-        MessageHeader::RecordBatch(batch) => record_batch_part(alloc, batch),
+        MessageHeader::Schema(schema) => schema_part(pool, schema),
+        MessageHeader::DictionaryBatch(batch) => dictionary_batch_part(pool, batch),
+        MessageHeader::RecordBatch(batch) => record_batch_part(pool, batch),
     }
 }
 
-fn message_part(alloc: Global, message: &Message) -> Result<Built, AllocError>
+fn message_part(pool: &mut Pool, message: &Message) -> Result<Built, AllocError>
     ensures { IfOk result (λ built. IsPart built (table (message_slots message.now))) }
 {
-    let header = header_part(alloc, &message.header)?;
-    let pairs = optional_pairs(alloc, &message.custom_metadata)?;
+    let header = header_part(pool, &message.header)?;
+    let pairs = optional_pairs(pool, &message.custom_metadata)?;
     table(
-        alloc,
+        pool,
         &[
             Slot::Number(version_number(message.version)),
             Slot::Number(header_tag(&message.header)),
@@ -266,6 +269,7 @@ impl Message {
         ensures reads { (levels : ℕ) → IfOk result (λ bytes.
             HaveRoot bytes.items (IsMessage levels) self.now) }
     {
-        message(alloc, &message_part(alloc, self)?)
+        let mut pool = Pool::new(alloc);
+        message(alloc, &message_part(&mut pool, self)?)
     }
 }

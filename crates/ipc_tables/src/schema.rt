@@ -8,9 +8,9 @@ ghost use Rattle.ipc_tables.specs.Slots.{AreBuilt, IsOptional};
 use crate::elements::{Element, elements_slot};
 use crate::slots::{flag, long, push};
 use crate::types::{FieldType, Int, int_part, type_part, type_tag};
-use ipc_table_bytes::{Built, Slot, put_u64, table, tables, text};
+use ipc_table_bytes::{Built, Pool, Slot, put_u64, table, tables, text};
 use ipc_table_views::{Endianness, MetadataVersion};
-use std::alloc::{AllocError, Global};
+use std::alloc::AllocError;
 
 /// A table `KeyValue`, as a value.
 #[derive(Drop)]
@@ -136,61 +136,64 @@ impl Element for Feature {
     }
 }
 
-fn pair_part(alloc: Global, pair: &KeyValue) -> Result<Built, AllocError>
+fn pair_part(pool: &mut Pool, pair: &KeyValue) -> Result<Built, AllocError>
     ensures { IfOk result (λ built. IsPart built (pair_part pair.now)) }
 {
-    let key = text(alloc, pair.key.as_str())?;
-    let value = text(alloc, pair.value.as_str())?;
-    table(alloc, &[Slot::Offset(key), Slot::Offset(value)])
+    let key = text(pool, pair.key.as_str())?;
+    let value = text(pool, pair.value.as_str())?;
+    let mut slots = [Slot::Offset(key), Slot::Offset(value)];
+    let part = table(pool, &slots)?;
+    pool.give_slots(&mut slots)?;
+    Ok(part)
 }
 
-fn pair_parts(alloc: Global, pairs: &[KeyValue]) -> Result<Vec<Built>, AllocError>
+fn pair_parts(pool: &mut Pool, pairs: &[KeyValue]) -> Result<Vec<Built>, AllocError>
     ensures { IfOk result (λ parts. AreBuilt parts.items (map pair_part pairs.now)) }
 {
-    let mut parts = Vec::new(alloc);
+    let mut parts = Vec::new(pool.alloc());
     for pair in pairs {
-        push(&mut parts, pair_part(alloc, pair)?)?;
+        push(&mut parts, pair_part(pool, pair)?)?;
     }
     Ok(parts)
 }
 
 // The vector of some pairs.
-fn pairs_vector(alloc: Global, pairs: &[KeyValue]) -> Result<Built, AllocError>
+fn pairs_vector(pool: &mut Pool, pairs: &[KeyValue]) -> Result<Built, AllocError>
     ensures { IfOk result (λ built. IsPart built (pairs_vector pairs.now)) }
 {
-    let parts = pair_parts(alloc, pairs)?;
-    tables(alloc, &parts)
+    let parts = pair_parts(pool, pairs)?;
+    tables(pool, &parts)
 }
 
 // The slot for some pairs, absent if there are none.
-fn pairs_slot(alloc: Global, pairs: &[KeyValue]) -> Result<Slot, AllocError>
+fn pairs_slot(pool: &mut Pool, pairs: &[KeyValue]) -> Result<Slot, AllocError>
     ensures { IfOk result (λ slot. IsOptional slot (pairs_part pairs.now)) }
 {
     if pairs.is_empty() {
         return Ok(Slot::Absent);
     }
-    Ok(Slot::Offset(pairs_vector(alloc, pairs)?))
+    Ok(Slot::Offset(pairs_vector(pool, pairs)?))
 }
 
 // The slot for a vector of some pairs, absent if it is.
 pub(crate) fn optional_pairs(
-    alloc: Global,
+    pool: &mut Pool,
     pairs: &Option<Vec<KeyValue>>,
 ) -> Result<Slot, AllocError>
     ensures { IfOk result (λ slot. IsOptional slot (option_map (λ v. pairs_vector v.items) pairs.now)) }
 {
     match pairs {
         None => Ok(Slot::Absent),
-        Some(pairs) => Ok(Slot::Offset(pairs_vector(alloc, pairs.as_slice())?)),
+        Some(pairs) => Ok(Slot::Offset(pairs_vector(pool, pairs.as_slice())?)),
     }
 }
 
-fn dictionary_part(alloc: Global, dictionary: DictionaryEncoding) -> Result<Built, AllocError>
+fn dictionary_part(pool: &mut Pool, dictionary: DictionaryEncoding) -> Result<Built, AllocError>
     ensures { IfOk result (λ built. IsPart built (table (dictionary_slots dictionary))) }
 {
-    let index_type = int_part(alloc, dictionary.index_type)?;
+    let index_type = int_part(pool, dictionary.index_type)?;
     table(
-        alloc,
+        pool,
         &[
             Slot::Number(long(dictionary.id)),
             Slot::Offset(index_type),
@@ -201,69 +204,71 @@ fn dictionary_part(alloc: Global, dictionary: DictionaryEncoding) -> Result<Buil
 }
 
 fn dictionary_slot(
-    alloc: Global,
+    pool: &mut Pool,
     dictionary: Option<DictionaryEncoding>,
 ) -> Result<Slot, AllocError>
     ensures { IfOk result (λ slot. IsOptional slot (option_map (λ d. table (dictionary_slots d)) dictionary)) }
 {
     match dictionary {
         None => Ok(Slot::Absent),
-        Some(dictionary) => Ok(Slot::Offset(dictionary_part(alloc, dictionary)?)),
+        Some(dictionary) => Ok(Slot::Offset(dictionary_part(pool, dictionary)?)),
     }
 }
 
 // The table of a field, from its encoded children.
-fn field_table(alloc: Global, field: &Field, children: &[Built]) -> Result<Built, AllocError>
+fn field_table(pool: &mut Pool, field: &Field, children: &[Built]) -> Result<Built, AllocError>
     ensures { (parts : List Part) → AreBuilt children.now parts → IfOk result (λ built. IsPart built (table (field_slots field.now parts))) }
 {
-    let name = text(alloc, field.name.as_str())?;
-    let type_ = type_part(alloc, &field.type_)?;
-    let dictionary = dictionary_slot(alloc, field.dictionary)?;
-    let children = tables(alloc, children)?;
-    let pairs = pairs_slot(alloc, field.custom_metadata.as_slice())?;
-    table(
-        alloc,
-        &[
-            Slot::Offset(name),
-            Slot::Number(flag(field.nullable)),
-            Slot::Number(type_tag(&field.type_)),
-            Slot::Offset(type_),
-            dictionary,
-            Slot::Offset(children),
-            pairs,
-        ],
-    )
+    let name = text(pool, field.name.as_str())?;
+    let type_ = type_part(pool, &field.type_)?;
+    let dictionary = dictionary_slot(pool, field.dictionary)?;
+    let children = tables(pool, children)?;
+    let pairs = pairs_slot(pool, field.custom_metadata.as_slice())?;
+    let mut slots = [
+        Slot::Offset(name),
+        Slot::Number(flag(field.nullable)),
+        Slot::Number(type_tag(&field.type_)),
+        Slot::Offset(type_),
+        dictionary,
+        Slot::Offset(children),
+        pairs,
+    ];
+    let part = table(pool, &slots)?;
+    pool.give_slots(&mut slots)?;
+    Ok(part)
 }
 
 #[cycle(fields)]
-fn field_part(alloc: Global, field: &Field) -> Result<Built, AllocError>
+fn field_part(pool: &mut Pool, field: &Field) -> Result<Built, AllocError>
     ensures { IfOk result (λ built. IsPart built (field_part field.now)) }
 {
-    let children = field_parts(alloc, &field.children)?;
-    field_table(alloc, field, &children)
+    let children = field_parts(pool, &field.children)?;
+    let part = field_table(pool, field, &children)?;
+    pool.give_parts(children)?;
+    Ok(part)
 }
 
 #[cycle(fields)]
-fn field_parts(alloc: Global, fields: &[Field]) -> Result<Vec<Built>, AllocError>
+fn field_parts(pool: &mut Pool, fields: &[Field]) -> Result<Vec<Built>, AllocError>
     ensures { IfOk result (λ parts. AreBuilt parts.items (map field_part fields.now)) }
 {
-    let mut parts = Vec::new(alloc);
+    let mut parts = Vec::new(pool.alloc());
     for field in fields {
-        push(&mut parts, field_part(alloc, field)?)?;
+        push(&mut parts, field_part(pool, field)?)?;
     }
     Ok(parts)
 }
 
 // The table of a schema.
-pub(crate) fn schema_part(alloc: Global, schema: &Schema) -> Result<Built, AllocError>
+pub(crate) fn schema_part(pool: &mut Pool, schema: &Schema) -> Result<Built, AllocError>
     ensures { IfOk result (λ built. IsPart built (table (schema_slots schema.now))) }
 {
-    let fields = field_parts(alloc, &schema.fields)?;
-    let fields = tables(alloc, &fields)?;
-    let pairs = pairs_slot(alloc, schema.custom_metadata.as_slice())?;
-    let features = elements_slot(alloc, &schema.features)?;
+    let fields = field_parts(pool, &schema.fields)?;
+    let fields = tables(pool, &fields)?;
+    let pairs = pairs_slot(pool, schema.custom_metadata.as_slice())?;
+    let features = elements_slot(pool, &schema.features)?;
     table(
-        alloc,
+        pool,
         &[
             Slot::Number(endianness_number(schema.endianness)),
             Slot::Offset(fields),

@@ -7,9 +7,9 @@ ghost use Rattle.ipc_tables.specs.Types.{date_unit_number, decimal_slots, int_sl
 
 use crate::elements::{Element, elements_slot};
 use crate::slots::{flag, word};
-use ipc_table_bytes::{Built, Slot, put_u32, table, text};
+use ipc_table_bytes::{Built, Pool, Slot, put_u32, table, text};
 use ipc_table_views::{DateUnit, IntervalUnit, Precision, TimeUnit, UnionMode};
-use std::alloc::{AllocError, Global};
+use std::alloc::AllocError;
 
 /// A table `Int`, as a value.
 #[derive(Clone, Copy, Debug, PartialEq, Eq)]
@@ -205,32 +205,32 @@ pub(crate) fn type_tag(type_: &FieldType) -> u64
     }
 }
 
-fn empty_part(alloc: Global) -> Result<Built, AllocError>
+fn empty_part(pool: &mut Pool) -> Result<Built, AllocError>
     ensures { IfOk result (λ built. IsPart built (table no_slots)) }
 {
-    table(alloc, &[])
+    table(pool, &[])
 }
 
 // A table of one enumeration.
-fn unit_part(alloc: Global, number: u64) -> Result<Built, AllocError>
+fn unit_part(pool: &mut Pool, number: u64) -> Result<Built, AllocError>
     requires { number < 2 ^ 16 }
     ensures { IfOk result (λ built. IsPart built (table (number_slots 2 number))) }
 {
-    table(alloc, &[Slot::Number(number)])
+    table(pool, &[Slot::Number(number)])
 }
 
 // A table of one signed 32-bit number.
-fn width_part(alloc: Global, width: i32) -> Result<Built, AllocError>
+fn width_part(pool: &mut Pool, width: i32) -> Result<Built, AllocError>
     ensures { IfOk result (λ built. IsPart built (table (number_slots 4 (bits32 width)))) }
 {
-    table(alloc, &[Slot::Number(word(width))])
+    table(pool, &[Slot::Number(word(width))])
 }
 
-pub(crate) fn int_part(alloc: Global, int: Int) -> Result<Built, AllocError>
+pub(crate) fn int_part(pool: &mut Pool, int: Int) -> Result<Built, AllocError>
     ensures { IfOk result (λ built. IsPart built (table (int_slots int))) }
 {
     table(
-        alloc,
+        pool,
         &[
             Slot::Number(word(int.bit_width)),
             Slot::Number(flag(int.is_signed)),
@@ -238,11 +238,11 @@ pub(crate) fn int_part(alloc: Global, int: Int) -> Result<Built, AllocError>
     )
 }
 
-fn decimal_part(alloc: Global, decimal: Decimal) -> Result<Built, AllocError>
+fn decimal_part(pool: &mut Pool, decimal: Decimal) -> Result<Built, AllocError>
     ensures { IfOk result (λ built. IsPart built (table (decimal_slots decimal))) }
 {
     table(
-        alloc,
+        pool,
         &[
             Slot::Number(word(decimal.precision)),
             Slot::Number(word(decimal.scale)),
@@ -251,11 +251,11 @@ fn decimal_part(alloc: Global, decimal: Decimal) -> Result<Built, AllocError>
     )
 }
 
-fn time_part(alloc: Global, time: Time) -> Result<Built, AllocError>
+fn time_part(pool: &mut Pool, time: Time) -> Result<Built, AllocError>
     ensures { IfOk result (λ built. IsPart built (table (time_slots time))) }
 {
     table(
-        alloc,
+        pool,
         &[
             Slot::Number(time_unit_number(time.unit)),
             Slot::Number(word(time.bit_width)),
@@ -263,21 +263,21 @@ fn time_part(alloc: Global, time: Time) -> Result<Built, AllocError>
     )
 }
 
-fn timezone_slot(alloc: Global, timezone: &Option<String>) -> Result<Slot, AllocError>
+fn timezone_slot(pool: &mut Pool, timezone: &Option<String>) -> Result<Slot, AllocError>
     ensures { IfOk result (λ slot. IsOptional slot (option_map (λ s. text (string_bytes s)) timezone.now)) }
 {
     match timezone {
         None => Ok(Slot::Absent),
-        Some(timezone) => Ok(Slot::Offset(text(alloc, timezone.as_str())?)),
+        Some(timezone) => Ok(Slot::Offset(text(pool, timezone.as_str())?)),
     }
 }
 
-fn timestamp_part(alloc: Global, timestamp: &Timestamp) -> Result<Built, AllocError>
+fn timestamp_part(pool: &mut Pool, timestamp: &Timestamp) -> Result<Built, AllocError>
     ensures { IfOk result (λ built. IsPart built (table (timestamp_slots timestamp.now))) }
 {
-    let timezone = timezone_slot(alloc, &timestamp.timezone)?;
+    let timezone = timezone_slot(pool, &timestamp.timezone)?;
     table(
-        alloc,
+        pool,
         &[Slot::Number(time_unit_number(timestamp.unit)), timezone],
     )
 }
@@ -308,44 +308,44 @@ impl Element for i32 {
     }
 }
 
-fn union_part(alloc: Global, union: &Union) -> Result<Built, AllocError>
+fn union_part(pool: &mut Pool, union: &Union) -> Result<Built, AllocError>
     ensures { IfOk result (λ built. IsPart built (table (union_slots union.now))) }
 {
-    let ids = elements_slot(alloc, &union.type_ids)?;
-    table(alloc, &[Slot::Number(union_mode_number(union.mode)), ids])
+    let ids = elements_slot(pool, &union.type_ids)?;
+    table(pool, &[Slot::Number(union_mode_number(union.mode)), ids])
 }
 
-fn map_part(alloc: Global, map: Map) -> Result<Built, AllocError>
+fn map_part(pool: &mut Pool, map: Map) -> Result<Built, AllocError>
     ensures { IfOk result (λ built. IsPart built (table (map_slots map))) }
 {
-    table(alloc, &[Slot::Number(flag(map.keys_sorted))])
+    table(pool, &[Slot::Number(flag(map.keys_sorted))])
 }
 
 // The table of a type.
-pub(crate) fn type_part(alloc: Global, type_: &FieldType) -> Result<Built, AllocError>
+pub(crate) fn type_part(pool: &mut Pool, type_: &FieldType) -> Result<Built, AllocError>
     ensures { IfOk result (λ built. IsPart built (table (type_slots type_.now))) }
 {
     match type_ {
-        FieldType::Null => empty_part(alloc),
-        FieldType::Int(int) => int_part(alloc, *int),
-        FieldType::FloatingPoint(float) => unit_part(alloc, precision_number(float.precision)),
-        FieldType::Binary => empty_part(alloc),
-        FieldType::Utf8 => empty_part(alloc),
-        FieldType::Bool => empty_part(alloc),
-        FieldType::Decimal(decimal) => decimal_part(alloc, *decimal),
-        FieldType::Date(date) => unit_part(alloc, date_unit_number(date.unit)),
-        FieldType::Time(time) => time_part(alloc, *time),
-        FieldType::Timestamp(timestamp) => timestamp_part(alloc, timestamp),
-        FieldType::Interval(interval) => unit_part(alloc, interval_unit_number(interval.unit)),
-        FieldType::List => empty_part(alloc),
-        FieldType::Struct => empty_part(alloc),
-        FieldType::Union(union) => union_part(alloc, union),
-        FieldType::FixedSizeBinary(binary) => width_part(alloc, binary.byte_width),
-        FieldType::FixedSizeList(list) => width_part(alloc, list.list_size),
-        FieldType::Map(map) => map_part(alloc, *map),
-        FieldType::Duration(duration) => unit_part(alloc, time_unit_number(duration.unit)),
-        FieldType::LargeBinary => empty_part(alloc),
-        FieldType::LargeUtf8 => empty_part(alloc),
-        FieldType::LargeList => empty_part(alloc),
+        FieldType::Null => empty_part(pool),
+        FieldType::Int(int) => int_part(pool, *int),
+        FieldType::FloatingPoint(float) => unit_part(pool, precision_number(float.precision)),
+        FieldType::Binary => empty_part(pool),
+        FieldType::Utf8 => empty_part(pool),
+        FieldType::Bool => empty_part(pool),
+        FieldType::Decimal(decimal) => decimal_part(pool, *decimal),
+        FieldType::Date(date) => unit_part(pool, date_unit_number(date.unit)),
+        FieldType::Time(time) => time_part(pool, *time),
+        FieldType::Timestamp(timestamp) => timestamp_part(pool, timestamp),
+        FieldType::Interval(interval) => unit_part(pool, interval_unit_number(interval.unit)),
+        FieldType::List => empty_part(pool),
+        FieldType::Struct => empty_part(pool),
+        FieldType::Union(union) => union_part(pool, union),
+        FieldType::FixedSizeBinary(binary) => width_part(pool, binary.byte_width),
+        FieldType::FixedSizeList(list) => width_part(pool, list.list_size),
+        FieldType::Map(map) => map_part(pool, *map),
+        FieldType::Duration(duration) => unit_part(pool, time_unit_number(duration.unit)),
+        FieldType::LargeBinary => empty_part(pool),
+        FieldType::LargeUtf8 => empty_part(pool),
+        FieldType::LargeList => empty_part(pool),
     }
 }

@@ -9,7 +9,7 @@ use Rattle.ipc_devices.specs.declared.fault.Fault.{Fault}
 use Rattle.ipc_model.specs.Offers.{own_id, inner_ids}
 use Rattle.ipc_model.specs.TypeKinds.{first_ids, other_ids}
 use Rattle.ipc_tracker.specs.Listings.{Seen, Listed, Refuses}
-use Rattle.ipc_tracker.specs.Places.{Keyed, own_keyed, keyed_below, keyed_of}
+use Rattle.ipc_tracker.specs.Places.{HaveNoKeys, Keyed, own_keyed, keyed_below, keyed_of}
 use Rattle.ipc_tracker.specs.Trackers.{Remembered}
 use Rattle.ipc_tracker.proofs.KeyedLists.{listed_none, listed_then, refuses_front, refuses_behind}
 
@@ -91,3 +91,20 @@ below_refused m fixed a ks js ls e same h = refuses_front m fixed a js ls e (sub
 
 pub field_refused : {A : Type 0} (m : Remembered) (fixed : Bool) (a b : Seen) (ks js ls : List Keyed) (r : Result A Fault) → ks ≡ js → Listed m fixed a b ks → IfErr r (Refuses m fixed b ls) → IfErr r (Refuses m fixed a (js ++ ls))
 field_refused m fixed a b ks js ls r e x y = if_err r (λ f h. refuses_behind m fixed a b js ls f (subst (λ (is : List Keyed). Listed m fixed a b is) e x) h) y
+
+-- ---- columns without keys
+
+pub no_keys_more : (xs : List AnyArray) (i : ℕ) (y : AnyArray) → i < length xs → y ≡ get_or xs i y → ((is : IdTrees) → keyed_below (layout_of y) is ≡ []) → ((id : Option ℤ) → own_keyed (layout_of y) id ≡ [])
+    → HaveNoKeys (drop (i + 1) xs) → HaveNoKeys (drop i xs)
+no_keys_more xs i y h e below own rest = λ is.
+    let next : i + 1 ≡ suc i = omega arith in
+    let js = other_ids is in
+    let behind : keyed_of (layouts (map layout_of (drop (suc i) xs))) js ≡ [] = subst (λ (n : ℕ). keyed_of (layouts (map layout_of (drop n xs))) js ≡ []) next (rest js) in
+    ap (λ (ys : List AnyArray). keyed_of (layouts (map layout_of ys)) is) (drop_more xs i y h e)
+    ∙ ap₂ (λ (p q : List Keyed). p ++ q) (ap₂ (λ (p q : List Keyed). p ++ q) (below (inner_ids (first_ids is))) (own (own_id (first_ids is)))) behind
+
+pub no_keys_done : (xs : List AnyArray) (i : ℕ) → length xs ≤ i → HaveNoKeys (drop i xs)
+no_keys_done xs i h = λ is. ap (λ (ys : List AnyArray). keyed_of (layouts (map layout_of ys)) is) (drop_none xs i h)
+
+pub no_keys_listed : (m : Remembered) (fixed : Bool) (a : Seen) (xs : List AnyArray) (is : IdTrees) → HaveNoKeys xs → Listed m fixed a a (keyed_of (layouts (map layout_of xs)) is)
+no_keys_listed m fixed a xs is none = subst (λ (ks : List Keyed). Listed m fixed a a ks) (sym (none is)) (listed_none m fixed a)

@@ -1,8 +1,10 @@
 -- The dictionaries in some columns, inner before outer.
 -- (Arrow columnar format, "Dictionary messages".)
-use Rattle.std.specs.Prelude.{◌≡◌, ℤ, List, [], ◌∷◌, ◌++◌, Option, Some, None, IsSome, if◌then◌else◌}
+use Rattle.std.specs.Prelude.{◌≡◌, ℤ, List, [], ◌∷◌, ◌++◌, map, Option, Some, None, IsSome, if◌then◌else◌}
 use Rattle.std.specs.List.{AllByRecursion, flat_map}
-use Rattle.lower_arrays.specs.Layouts.{Layout, layout, Layouts, no_layouts, more_layouts}
+use Rattle.lower_arrays.specs.AnyLayouts.{layout_of}
+use Rattle.lower_arrays.specs.Layouts.{Layout, layout, Layouts, layouts, no_layouts, more_layouts}
+use Rattle.lower_arrays.specs.declared.array.AnyArray.{AnyArray}
 use Rattle.ipc_base.specs.IdTrees.{IdTrees}
 use Rattle.ipc_model.specs.Entries.{Dictionary}
 use Rattle.ipc_model.specs.Offers.{FilledPlace, is_keyed, own_id, inner_ids}
@@ -34,6 +36,10 @@ abbrev mutual
   keyed_of no_layouts is = []
   keyed_of (more_layouts c cs) is =
       (keyed_below c (inner_ids (first_ids is)) ++ own_keyed c (own_id (first_ids is))) ++ keyed_of cs (other_ids is)
+
+-- None of these arrays is one of keys, nor any below them.
+abbrev pub HaveNoKeys : List AnyArray → Type 0
+HaveNoKeys xs = (is : IdTrees) → keyed_of (layouts (map layout_of xs)) is ≡ []
 
 -- Each array of keys has an id.
 abbrev pub HaveIds : List Keyed → Type 0

@@ -1,5 +1,5 @@
 //! Lists the dictionaries of a chunk that must be written.
-ghost use Rattle.std.specs.Prelude.{◌≡◌, ◌≢◌, ◌≤◌, ℤ, None, [], ◌++◌, ◌∷◌, Some, IfErr, IfOk, OnOk, drop, map};
+ghost use Rattle.std.specs.Prelude.{◌≡◌, ◌≢◌, ◌≤◌, ℤ, IsTrue, Option, None, [], ◌++◌, ◌∷◌, Some, IfErr, IfOk, OnOk, drop, map};
 ghost use Rattle.ipc_devices.specs.declared.fault.Fault.TheVariants.{Argument, Memory};
 ghost use Rattle.ipc_devices.specs.declared.fault.ArgFault.TheVariants.{SharedDictionary};
 ghost use Rattle.ipc_base.specs.IdTrees.{IdTrees, all_ids_view};
@@ -8,7 +8,7 @@ ghost use Rattle.ipc_model.specs.TypeKinds.{first_ids};
 ghost use Rattle.lower_arrays.specs.Layouts.{height, heights, layouts};
 ghost use Rattle.lower_arrays.specs.AnyLayouts.{layout_of};
 ghost use Rattle.ipc_tracker.specs.Trackers.{dictionary_of, remembered};
-ghost use Rattle.ipc_tracker.specs.Places.{keyed_below, keyed_of, own_keyed};
+ghost use Rattle.ipc_tracker.specs.Places.{HaveNoKeys, keyed_below, keyed_of, own_keyed};
 ghost use Rattle.ipc_tracker.specs.Listings.{seen, listed, Listed, ListsAll, Meets, Refuses, RefusesAll};
 
 use crate::tracker::{DictionaryTracker, NewDictionary, is_same_values};
@@ -48,7 +48,7 @@ pub fn list_dictionaries(
         tracker.now.cannot_replace (map layout_of columns.now) (all_ids_view ids.now)) }
 {
     let mut listing = Listing::new(alloc);
-    list_all(&mut listing, tracker, columns, ids)?;
+    list_columns(&mut listing, tracker, columns, ids)?;
     Ok(listing.into_list())
 }
 
@@ -121,6 +121,58 @@ fn check_shared(id: i64, values: &AnyArray, others: &AnyArray) -> Result<(), Fau
         return Err(Fault::Argument(ArgFault::SharedDictionary(id)));
     }
     Ok(())
+}
+
+// Visits the arrays of keys in the columns of a chunk. Most chunks have none, which is found at
+// once.
+fn list_columns(
+    listing: &mut Listing,
+    tracker: &DictionaryTracker,
+    columns: &[AnyArray],
+    ids: &[IpcField],
+) -> Result<(), Fault>
+    ensures listed { OnOk result (Listed (remembered tracker.now) tracker.now.cannot_replace
+        (seen listing.old) (seen listing.new)
+        (keyed_of (layouts (map layout_of columns.now)) (all_ids_view ids.now))) }
+    ensures refused { IfErr result (Refuses (remembered tracker.now) tracker.now.cannot_replace
+        (seen listing.old)
+        (keyed_of (layouts (map layout_of columns.now)) (all_ids_view ids.now))) }
+{
+    if are_flat(columns) {
+        return Ok(());
+    }
+    list_all(listing, tracker, columns, ids)
+}
+
+// Whether no array is one of keys, or has others below it.
+fn are_flat(arrays: &[AnyArray]) -> bool
+    ensures { IsTrue result → HaveNoKeys arrays.now }
+{
+    for array in arrays {
+        if !is_flat(array) {
+            return false;
+        }
+    }
+    true
+}
+
+// Whether an array is neither one of keys nor has others below it.
+fn is_flat(array: &AnyArray) -> bool
+    ensures below { IsTrue result
+        → (is : IdTrees) → keyed_below (layout_of array.now) is ≡ [] }
+    ensures own { IsTrue result
+        → (id : Option ℤ) → own_keyed (layout_of array.now) id ≡ [] }
+{
+    match array {
+        AnyArray::List(_) => false,
+        AnyArray::LargeList(_) => false,
+        AnyArray::FixedSizeList(_) => false,
+        AnyArray::Struct(_) => false,
+        AnyArray::Union(_) => false,
+        AnyArray::Map(_) => false,
+        AnyArray::Dictionary(_) => false,
+        _ => true,
+    }
 }
 
 // Visits the arrays of keys in some columns, each after those inside its values.

@@ -6,7 +6,7 @@ use Rattle.ipc_tables.proofs.schema.+fields.Goals as goal
 pub field_part-returns : goal.field_part-returns
 field_part-returns t c =
     rw (field_part-from c.args.field.now c.deref.result.now c.deref.ensures.value)
-    (c.field_table.ensures (map field_part c.deref.result.now) (rw c.deref-2.ensures.value c.in_ok-children.ensures))
+    (c.in_ok-part.ensures (map field_part c.deref.result.now) (rw c.deref-2.ensures.value c.in_ok-children.ensures))
 
 pub field_parts-loop-field-preserved : goal.field_parts-loop-field-preserved
 field_parts-loop-field-preserved t c =

@@ -12,7 +12,7 @@ pub returns : goal.returns
 returns c = λ parts are.
     let dictionary = option_map (λ d. table (dictionary_slots d)) (out-Field c.args.field.now).dictionary in
     let pairs = pairs_part (out-Field c.args.field.now).custom_metadata.items in
-    c.table.ensures (field_slots c.args.field.now parts)
+    c.in_ok-part.ensures (field_slots c.args.field.now parts)
     (is_offset (rw c.as_str.ensures.value at c.in_ok-name.ensures)
     (is_byte c.flag.ensures.value c.flag.ensures.small
     (is_byte c.type_tag.ensures.value c.type_tag.ensures.small

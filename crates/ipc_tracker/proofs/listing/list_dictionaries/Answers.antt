@@ -8,13 +8,13 @@ use Rattle.ipc_tracker.proofs.listing.list_dictionaries.Goals as goal
 
 pub returns-clause-lists : goal.returns-clause-lists
 returns-clause-lists c =
-    lists_all (remembered c.args.tracker.now) c.args.tracker.now.cannot_replace (seen c.new-listing.result) (seen c.list_all.new.listing) (map layout_of c.args.columns.now) (all_ids_view c.args.ids.now)
-    (map listed c.into_list.result.items) c.new-listing.ensures.met c.new-listing.ensures.list c.into_list.ensures c.in_ok-list_all.ensures.listed
+    lists_all (remembered c.args.tracker.now) c.args.tracker.now.cannot_replace (seen c.new-listing.result) (seen c.list_columns.new.listing) (map layout_of c.args.columns.now) (all_ids_view c.args.ids.now)
+    (map listed c.into_list.result.items) c.new-listing.ensures.met c.new-listing.ensures.list c.into_list.ensures c.in_ok-list_columns.ensures.listed
 
-pub returns-in_err-list_all-clause-refuses : goal.returns-in_err-list_all-clause-refuses
-returns-in_err-list_all-clause-refuses c =
-    let fault = c.in_err-list_all.field-0.0 in
+pub returns-in_err-list_columns-clause-refuses : goal.returns-in_err-list_columns-clause-refuses
+returns-in_err-list_columns-clause-refuses c =
+    let fault = c.in_err-list_columns.field-0.0 in
     let e : c.from_residual.result ≡ Err fault = search rules in
     rw e
     (refuses_all (remembered c.args.tracker.now) c.args.tracker.now.cannot_replace (seen c.new-listing.result) (map layout_of c.args.columns.now) (all_ids_view c.args.ids.now) fault c.new-listing.ensures.met
-    c.in_err-list_all.ensures.refused)
+    c.in_err-list_columns.ensures.refused)
