@@ -42,7 +42,7 @@ planned_end order ls p h = h.end_is ∙ ap length (sym h.body_is)
 pub kept_end : (order : Endianness) (ls : List Layout) (p q : Plan) → PlansColumns order ls p → q.pieces.items ≡ p.pieces.items → q.end ≡ p.end → q.end ≡ length (pieces_bytes order q.pieces.items)
 kept_end order ls p q h pieces end = rw pieces (end ∙ planned_end order ls p h)
 
-pub kept_few : (order : Endianness) (ls : List Layout) (p q : Plan) → PlansColumns order ls p → q.pieces.items ≡ p.pieces.items → length q.pieces.items ≤ 2 * length (body_lengths (levels_of ls))
+pub kept_few : (order : Endianness) (ls : List Layout) (p q : Plan) → PlansColumns order ls p → q.pieces.items ≡ p.pieces.items → length q.pieces.items ≤ length (body_lengths (levels_of ls))
 kept_few order ls p q h pieces = omega (arith, ap length pieces, h.piece_count, h.buffer_count)
 
 pub encoded : (kind : BatchKind) (order : Endianness) (ls : List Layout) (rows : ℕ) (p q : Plan) (m : Message) (given : ℤ) (metadata : List ℕ)

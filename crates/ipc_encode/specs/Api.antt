@@ -21,7 +21,7 @@ pub record EncodesBatch (kind : BatchKind) (order : Endianness) (columns : List 
   -- The end of the body is its length.
   pub end : e.body.end ≡ length (pieces_bytes order e.body.pieces.items)
   -- The body has at most two pieces for each buffer.
-  pub few : length e.body.pieces.items ≤ 2 * length (body_lengths (levels_of columns))
+  pub few : length e.body.pieces.items ≤ length (body_lengths (levels_of columns))
   -- The metadata have the nodes and the buffers, and the body none.
   pub moved : (e.body.nodes.items ≡ []) × (e.body.buffers.items ≡ [])
 

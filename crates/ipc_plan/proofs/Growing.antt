@@ -24,10 +24,10 @@ use Rattle.ipc_model.specs.TypeKinds.{key_form}
 use Rattle.lower_types.specs.declared.PrimitiveType.{PrimitiveType}
 use Rattle.ipc_plan.specs.declared.pieces.NumberSlice.{NumberSlice}
 use Rattle.ipc_plan.specs.declared.pieces.NumberSlice.TheVariants.{Int8, Int16, Int32, Int64, Int128, Int256, UInt8, UInt16, UInt32, UInt64, DaysMs, MonthDayNano}
-use Rattle.ipc_plan.specs.Pieces.{piece_bytes, pieces_bytes, slice_type}
+use Rattle.ipc_plan.specs.Pieces.{padded_bytes, piece_bytes, pieces_bytes, slice_type}
 use Rattle.ipc_plan.specs.Plans.{entries_from, end_from, body, Grows, AddsValidity, AddsBits, AddsNumbers, AddsOffsets, AddsHead, AddsSpans, AddsStart, AddsLevel, Adds}
 use Rattle.ipc_plan.specs.declared.pieces.Piece.{Piece}
-use Rattle.ipc_plan.specs.declared.pieces.Piece.TheVariants.{Zeros}
+use Rattle.ipc_plan.specs.declared.pieces.Padded.{Padded}
 use Rattle.ipc_plan.specs.declared.plan.Plan.{Plan}
 use Rattle.ipc_plan.proofs.Standing.{joined-append}
 
@@ -62,25 +62,19 @@ grows_then p q r ns ms bs cs f g = record {
   small = g.small;
 }
 
--- one piece more
-pub one_piece : (order : Endianness) (ps qs : List Piece) (x : Piece) → qs ≡ ps ++ x ∷ [] → pieces_bytes order qs ≡ pieces_bytes order ps ++ piece_bytes order x
-one_piece order ps qs x e =
-    ap (pieces_bytes order) e ∙ flat_map-append (piece_bytes order) ps (x ∷ []) ∙ ap (λ xs. pieces_bytes order ps ++ xs) (append-nil (piece_bytes order x))
-
--- No piece for one that has no byte.
-pub no_piece : (order : Endianness) (ps : List Piece) (x : Piece) → length (piece_bytes order x) ≡ 0 → pieces_bytes order ps ≡ pieces_bytes order ps ++ piece_bytes order x
-no_piece order ps x e = sym (ap (λ xs. pieces_bytes order ps ++ xs) (nil_from_length _ e) ∙ append-nil (pieces_bytes order ps))
-
 -- One more buffer: its piece, and zeros.
-pub one_buffer : (order : Endianness) (ps qs rs : List Piece) (x : Piece) (n : ℕ) → pieces_bytes order qs ≡ pieces_bytes order ps ++ piece_bytes order x
-    → pieces_bytes order rs ≡ pieces_bytes order qs ++ piece_bytes order (Zeros n) → n ≡ next_multiple_of (length (piece_bytes order x)) 64 - length (piece_bytes order x)
-    → pieces_bytes order rs ≡ pieces_bytes order ps ++ body (piece_bytes order x ∷ [])
-one_buffer order ps qs rs x n e f count =
+pub one_piece : (order : Endianness) (ps qs : List Padded) (x : Piece) (n k : ℕ) → n ≡ length (piece_bytes order x) → k ≡ next_multiple_of n 64 - n → qs ≡ ps ++ record { piece = x; zeros = k } ∷ []
+    → pieces_bytes order qs ≡ pieces_bytes order ps ++ body (piece_bytes order x ∷ [])
+one_piece order ps qs x n k len count e =
     let zero_byte : ℕ = 0 in
-    let bytes = piece_bytes order x in
-    twice (pieces_bytes order ps) (pieces_bytes order qs) (pieces_bytes order rs) bytes (replicate n zero_byte) e f
-    ∙ ap (λ k. pieces_bytes order ps ++ (bytes ++ replicate k zero_byte)) count
-    ∙ ap (λ xs. pieces_bytes order ps ++ xs) (sym (append-nil (padded bytes)))
+    let zeros : k ≡ next_multiple_of (length (piece_bytes order x)) 64 - length (piece_bytes order x) = count ∙ ap (λ j. next_multiple_of j 64 - j) len in
+    ap (pieces_bytes order) e
+    ∙ flat_map-append (padded_bytes order) ps (record { piece = x; zeros = k } ∷ [])
+    ∙ ap (λ j. pieces_bytes order ps ++ ((piece_bytes order x ++ replicate j zero_byte) ++ [])) zeros
+
+-- No piece for a buffer that has no byte.
+pub no_piece : (order : Endianness) (ps : List Padded) (x : Piece) → length (piece_bytes order x) ≡ 0 → pieces_bytes order ps ≡ pieces_bytes order ps ++ body (piece_bytes order x ∷ [])
+no_piece order ps x e = sym (ap (λ xs. pieces_bytes order ps ++ body (xs ∷ [])) (nil_from_length _ e) ∙ append-nil (pieces_bytes order ps))
 
 -- ---- levels
 

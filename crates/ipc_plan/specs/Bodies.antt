@@ -52,5 +52,5 @@ pub record PlansColumns (order : Endianness) (ls : List Layout) (p : Plan) : Typ
   pub body_is : pieces_bytes order p.pieces.items ≡ body (joined_buffers buffers)
   pub node_count : length p.nodes.items ≡ length (flat_map whole_levels ls)
   pub buffer_count : length p.buffers.items ≡ length (body_lengths (flat_map whole_levels ls))
-  pub piece_count : length p.pieces.items ≤ 2 * length p.buffers.items
+  pub piece_count : length p.pieces.items ≤ length p.buffers.items
   pub means : (known : Dictionaries) (before rest : List ℕ) (is : IdTrees) → AllMean (entries_of_plan p known before rest) ls is 0 0

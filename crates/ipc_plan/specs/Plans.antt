@@ -14,6 +14,7 @@ use Rattle.ipc_model.specs.WrittenBatches.{padded, entry}
 use Rattle.ipc_plan.specs.Levels.{node_of, AreBits, AreNumberBytes, AreOffsetBytes, AreRead, AreBuffers, cut_out, HaveBuffers, IsValidity, joined_buffers}
 use Rattle.ipc_plan.specs.Pieces.{slice_type, slice_numbers, number_bytes, pieces_bytes, buffer_pieces, EndsClear}
 use Rattle.ipc_plan.specs.declared.pieces.NumberSlice.{NumberSlice}
+use Rattle.ipc_plan.specs.declared.pieces.Padded.{Padded}
 use Rattle.ipc_plan.specs.declared.pieces.Piece.{Piece}
 use Rattle.ipc_plan.specs.declared.plan.Plan.{Plan}
 
@@ -38,7 +39,7 @@ pub record Grows (p q : Plan) (ns : List FieldNode) (bs : List (List ℕ)) : Typ
   pub entries_are : q.buffers.items ≡ p.buffers.items ++ entries_from p.end bs
   pub end_is : q.end ≡ end_from p.end bs
   pub body_is : pieces_bytes p.order q.pieces.items ≡ pieces_bytes p.order p.pieces.items ++ body bs
-  pub few : length q.pieces.items ≤ length p.pieces.items + 2 * length bs
+  pub few : length q.pieces.items ≤ length p.pieces.items + length bs
   pub small : q.end < 2 ^ 63
 
 -- The plan has one buffer more: a validity.
@@ -53,15 +54,15 @@ pub record AddsBits (p q : Plan) (bits : List Bool) : Type 0 where
   pub are : AreBits bits bytes
   pub grows : Grows p q [] (bytes ∷ [])
 
--- The plan has the pieces of one buffer more: x of n bytes, and zeros.
+-- The plan has the piece of one buffer more: x of n bytes, with zeros.
 pub record AddsPieces (p q : Plan) (x : Piece) (n : ℕ) : Type 0 where
   pub pieces_are : q.pieces.items ≡ p.pieces.items ++ buffer_pieces x n
 
 -- The plan has more pieces; each that isn't unchanged bytes has zeros after its n bits.
 pub record AddsClear (p q : Plan) (n : ℕ) : Type 0 where
-  pub pieces : List Piece
+  pub pieces : List Padded
   pub more : q.pieces.items ≡ p.pieces.items ++ pieces
-  pub clear : AllByRecursion (EndsClear p.order n) pieces
+  pub clear : AllByRecursion (λ x. EndsClear p.order n x.piece) pieces
 
 -- The plan has one buffer more: numbers.
 pub record AddsNumbers (p q : Plan) (t : PrimitiveType) (ns : List Number) : Type 0 where

@@ -35,6 +35,11 @@ pub enum Piece<'a> {
     /// The fields are the bytes, the position of the first bit in the first byte (modulo 8), and
     /// the number of bits.
     Bits(&'a [u8], usize, usize),
-    /// This many zero bytes.
-    Zeros(usize),
+}
+
+/// A piece of a body, and how many zero bytes come after it.
+#[derive(Clone, Copy)]
+pub struct Padded<'a> {
+    pub piece: Piece<'a>,
+    pub zeros: usize,
 }

@@ -5,9 +5,9 @@ ghost use Rattle.lower_types.specs.Numbers.{unsigned_bytes};
 ghost use Rattle.std.specs.List.{flat_map, range_with_len};
 ghost use Rattle.ipc_plan.specs.Sending.{Sends};
 ghost use Rattle.ipc_model.specs.Entries.{bytes_for};
-ghost use Rattle.ipc_plan.specs.Pieces.{less, packed, packed_byte, piece_bytes, pieces_bytes};
+ghost use Rattle.ipc_plan.specs.Pieces.{less, packed, packed_byte, padded_bytes, piece_bytes, pieces_bytes};
 
-use crate::pieces::{NumberSlice, Piece};
+use crate::pieces::{NumberSlice, Padded, Piece};
 use ipc_devices::{Fault, Writes};
 use lower::types::{Endianness, NativeType};
 
@@ -286,11 +286,25 @@ fn send_piece<W: Writes>(
         Piece::Bits(bytes, start, count) => {
             send_bits(writer, bytes, (*start % 8) as u32, *count, block)
         }
-        Piece::Zeros(count) => send_zeros(writer, *count),
     }
 }
 
-/// Sends pieces in order, with their numbers in this byte order.
+// Sends a piece, and the zeros after it.
+fn send_padded<W: Writes>(
+    writer: &mut W,
+    padded: &Padded<'_>,
+    order: Endianness,
+    block: &mut [u8],
+) -> Result<(), Fault>
+    requires { length block.old ≡ 4096 }
+    ensures sends { Sends W.device (padded_bytes order padded.now) writer.old result writer.new }
+    ensures block { length block.new ≡ 4096 }
+{
+    send_piece(writer, &padded.piece, order, block)?;
+    send_zeros(writer, padded.zeros)
+}
+
+/// Sends pieces in order, each with its zeros, and numbers in this byte order.
 ///
 /// Numbers, offsets and shifted bits go through a block of 4,096 bytes on the stack; bytes are sent
 /// directly.
@@ -299,14 +313,14 @@ fn send_piece<W: Writes>(
 /// first bytes of the pieces may have been sent then.
 pub fn send_pieces<W: Writes>(
     writer: &mut W,
-    pieces: &[Piece<'_>],
+    pieces: &[Padded<'_>],
     order: Endianness,
 ) -> Result<(), Fault>
     ensures { Sends W.device (pieces_bytes order pieces.now) writer.old result writer.new }
 {
     let mut block = [0u8; 4096];
     for piece in pieces {
-        send_piece(writer, piece, order, &mut block)?;
+        send_padded(writer, piece, order, &mut block)?;
     }
     Ok(())
 }

@@ -29,7 +29,7 @@ mod union;
 mod utf8;
 mod validity;
 
-use crate::plan::Plan;
+use crate::plan::{Plan, PlanFault};
 use crate::serialize::binary::{plan_large_binary, plan_small_binary};
 use crate::serialize::boolean::plan_boolean;
 use crate::serialize::dictionary::plan_dictionary;
@@ -67,11 +67,11 @@ pub fn plan_columns<'a>(
     ensures takes { AnswersColumns result (flat_map whole_levels (map layout_of columns.now)) }
     ensures arrays { OnOk result (AreArrays (layouts (map layout_of columns.now))) }
 {
-    // Room for columns without children, which most are: a node, two buffers and four pieces each.
+    // Room for columns without children, which most are: a node, two buffers and two pieces each.
     let count = columns.len();
     let nodes = Vec::with_capacity(alloc, count)?;
     let buffers = Vec::with_capacity(alloc, count.saturating_mul(2))?;
-    let pieces = Vec::with_capacity(alloc, count.saturating_mul(4))?;
+    let pieces = Vec::with_capacity(alloc, count.saturating_mul(2))?;
     let mut plan = Plan {
         order,
         nodes,
@@ -85,7 +85,7 @@ pub fn plan_columns<'a>(
 
 // Plans whole arrays, in order.
 #[cycle(plans)]
-pub(crate) fn plan_whole<'a>(plan: &mut Plan<'a>, arrays: &'a [AnyArray]) -> Result<(), Fault>
+pub(crate) fn plan_whole<'a>(plan: &mut Plan<'a>, arrays: &'a [AnyArray]) -> Result<(), PlanFault>
     requires { plan.old.end < 2 ^ 63 }
     ensures grows { OnOk result (Adds plan.old plan.new (flat_map whole_levels (map layout_of arrays.now))) }
     ensures takes { TakesLevels result (flat_map whole_levels (map layout_of arrays.now)) plan.old.end plan.new.end }
@@ -105,7 +105,7 @@ pub(crate) fn plan_beside<'a>(
     children: &'a [AnyArray],
     offset: usize,
     len: usize,
-) -> Result<(), Fault>
+) -> Result<(), PlanFault>
     requires small { plan.old.end < 2 ^ 63 }
     requires inside { AllReach (offset + len) (layouts (map layout_of children.now)) }
     ensures grows { OnOk result (Adds plan.old plan.new (levels_below (layouts (map layout_of children.now)) records offset len)) }
@@ -123,9 +123,9 @@ pub(crate) fn plan_beside<'a>(
 ///
 /// Errors (if several apply, any of them):
 ///
-/// - `Fault::Argument(ArgFault::TooLong)`: a level has more than `2^63 - 1` slots to write.
-/// - `Fault::Argument(ArgFault::TooLarge)`: the body would end after `2^63 - 1`.
-/// - `Fault::Memory`: an allocation failed.
+/// - `PlanFault::Long`: a level has more than `2^63 - 1` slots to write.
+/// - `PlanFault::Large`: the body would end after `2^63 - 1`.
+/// - `PlanFault::NoMemory`: an allocation failed.
 ///
 /// After an error the plan may have a part of the array.
 #[cycle(plans)]
@@ -134,7 +134,7 @@ pub fn plan_array<'a>(
     array: &'a AnyArray,
     offset: usize,
     len: usize,
-) -> Result<(), Fault>
+) -> Result<(), PlanFault>
     requires small { plan.old.end < 2 ^ 63 }
     requires inside { offset + len ≤ len_of (layout_of array.now) }
     ensures grows { OnOk result (Adds plan.old plan.new (written_levels (layout_of array.now) offset len)) }

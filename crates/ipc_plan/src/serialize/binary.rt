@@ -12,8 +12,7 @@ ghost use Rattle.ipc_plan.specs.Plans.{Adds, AddsSpans};
 
 use super::offsets::{Offsets, plan_head, range_of};
 use crate::pieces::Piece;
-use crate::plan::{Plan, push_buffer};
-use ipc_devices::Fault;
+use crate::plan::{Plan, PlanFault, push_buffer};
 use lower::bitmap::Bitmap;
 use lower_arrays::array::BinaryArray;
 
@@ -23,7 +22,7 @@ pub(crate) fn plan_small_binary<'a>(
     array: &'a BinaryArray<i32>,
     offset: usize,
     len: usize,
-) -> Result<(), Fault>
+) -> Result<(), PlanFault>
     requires small { plan.old.end < 2 ^ 63 }
     requires inside { offset + len ≤ span_count array.now.offsets }
     ensures grows { OnOk result (Adds plan.old plan.new (written_levels (bytes_layout Named.Int32 array.now) offset len)) }
@@ -46,7 +45,7 @@ pub(crate) fn plan_large_binary<'a>(
     array: &'a BinaryArray<i64>,
     offset: usize,
     len: usize,
-) -> Result<(), Fault>
+) -> Result<(), PlanFault>
     requires small { plan.old.end < 2 ^ 63 }
     requires inside { offset + len ≤ span_count array.now.offsets }
     ensures grows { OnOk result (Adds plan.old plan.new (written_levels (bytes_layout Named.Int64 array.now) offset len)) }
@@ -72,7 +71,7 @@ pub(crate) fn plan_cut_out<'a>(
     values: &'a [u8],
     offset: usize,
     len: usize,
-) -> Result<(), Fault>
+) -> Result<(), PlanFault>
     requires small { plan.old.end < 2 ^ 63 }
     requires inside { offset + len < length (places_of offsets) }
     requires validity { ValidityHolds (option_copied validity) (offset + len) }

@@ -6,8 +6,7 @@ ghost use Rattle.ipc_plan.specs.Taking.{TakesLevels};
 ghost use Rattle.ipc_plan.specs.Plans.{Adds};
 
 use super::validity::{plan_bits, plan_start};
-use crate::plan::Plan;
-use ipc_devices::Fault;
+use crate::plan::{Plan, PlanFault};
 use lower_arrays::array::BooleanArray;
 
 // Plans an array of booleans.
@@ -16,7 +15,7 @@ pub(crate) fn plan_boolean<'a>(
     array: &'a BooleanArray,
     offset: usize,
     len: usize,
-) -> Result<(), Fault>
+) -> Result<(), PlanFault>
     requires small { plan.old.end < 2 ^ 63 }
     requires inside { offset + len ≤ length array.now.values }
     ensures grows { OnOk result (Adds plan.old plan.new (written_levels (boolean_layout array.now) offset len)) }

@@ -14,8 +14,7 @@ ghost use Rattle.ipc_plan.specs.Plans.{Adds, IsSpelt};
 use super::numbers::{plan_numbers, values_in};
 use super::validity::plan_start;
 use crate::pieces::NumberSlice;
-use crate::plan::Plan;
-use ipc_devices::Fault;
+use crate::plan::{Plan, PlanFault};
 use lower_arrays::array::{DictionaryArray, DictionaryKeys};
 
 // Plans the keys of a dictionary.
@@ -24,7 +23,7 @@ pub(crate) fn plan_dictionary<'a>(
     array: &'a DictionaryArray,
     offset: usize,
     len: usize,
-) -> Result<(), Fault>
+) -> Result<(), PlanFault>
     requires small { plan.old.end < 2 ^ 63 }
     requires inside { offset + len ≤ length array.now.keys.integers }
     ensures grows { OnOk result (Adds plan.old plan.new (written_levels (dictionary_layout array.now) offset len)) }

@@ -10,8 +10,7 @@ ghost use Rattle.ipc_plan.specs.Plans.{Adds};
 use super::offsets::scaled;
 use super::validity::plan_start;
 use crate::pieces::Piece;
-use crate::plan::{Plan, push_buffer};
-use ipc_devices::Fault;
+use crate::plan::{Plan, PlanFault, push_buffer};
 use lower_arrays::array::FixedSizeBinaryArray;
 
 // Plans an array of byte strings of one length.
@@ -20,7 +19,7 @@ pub(crate) fn plan_fixed_size_binary<'a>(
     array: &'a FixedSizeBinaryArray,
     offset: usize,
     len: usize,
-) -> Result<(), Fault>
+) -> Result<(), PlanFault>
     requires small { plan.old.end < 2 ^ 63 }
     requires inside { offset + len ≤ array.now.len }
     ensures grows { OnOk result (Adds plan.old plan.new (written_levels (fixed_layout array.now) offset len)) }

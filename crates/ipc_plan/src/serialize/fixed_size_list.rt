@@ -8,8 +8,7 @@ ghost use Rattle.ipc_plan.specs.Plans.{Adds};
 use super::offsets::scaled;
 use super::plan_array;
 use super::validity::plan_start;
-use crate::plan::Plan;
-use ipc_devices::Fault;
+use crate::plan::{Plan, PlanFault};
 use lower_arrays::array::FixedSizeListArray;
 
 // Plans lists of one length: their own level, and their slots of the child.
@@ -19,7 +18,7 @@ pub(crate) fn plan_fixed_size_list<'a>(
     array: &'a FixedSizeListArray,
     offset: usize,
     len: usize,
-) -> Result<(), Fault>
+) -> Result<(), PlanFault>
     requires small { plan.old.end < 2 ^ 63 }
     requires inside { offset + len ≤ array.now.len }
     ensures grows { OnOk result (Adds plan.old plan.new (written_levels (fixed_list_layout array.now) offset len)) }

@@ -9,8 +9,7 @@ ghost use Rattle.ipc_plan.specs.Plans.{Adds};
 
 use super::offsets::{list_offsets, plan_head, range_of};
 use super::plan_array;
-use crate::plan::Plan;
-use ipc_devices::Fault;
+use crate::plan::{Plan, PlanFault};
 use lower_arrays::array::ListArray;
 
 // Plans lists: their own level, and the slots of the child between the first and the last offset.
@@ -21,7 +20,7 @@ pub(crate) fn plan_list<'a>(
     array: &'a ListArray,
     offset: usize,
     len: usize,
-) -> Result<(), Fault>
+) -> Result<(), PlanFault>
     requires small { plan.old.end < 2 ^ 63 }
     requires inside { offset + len ≤ span_count array.now.offsets }
     ensures small { OnOk result (Adds plan.old plan.new

@@ -8,8 +8,7 @@ ghost use Rattle.ipc_plan.specs.Plans.{Adds};
 
 use super::offsets::{Offsets, plan_head, range_of};
 use super::plan_array;
-use crate::plan::Plan;
-use ipc_devices::Fault;
+use crate::plan::{Plan, PlanFault};
 use lower_arrays::array::MapArray;
 
 // Plans maps: their own level, and the pairs between the first and the last offset.
@@ -19,7 +18,7 @@ pub(crate) fn plan_map<'a>(
     array: &'a MapArray,
     offset: usize,
     len: usize,
-) -> Result<(), Fault>
+) -> Result<(), PlanFault>
     requires small { plan.old.end < 2 ^ 63 }
     requires inside { offset + len ≤ span_count array.now.offsets }
     ensures grows { OnOk result (Adds plan.old plan.new (written_levels (map_layout array.now) offset len)) }

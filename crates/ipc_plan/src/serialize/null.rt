@@ -5,8 +5,7 @@ ghost use Rattle.ipc_model.specs.Offers.{written_levels};
 ghost use Rattle.ipc_plan.specs.Taking.{TakesLevels};
 ghost use Rattle.ipc_plan.specs.Plans.{Adds};
 
-use crate::plan::{Plan, push_node};
-use ipc_devices::Fault;
+use crate::plan::{Plan, PlanFault, push_node};
 use lower_arrays::array::NullArray;
 
 // Plans an array of nulls, which is only a node.
@@ -15,7 +14,7 @@ pub(crate) fn plan_null(
     array: &NullArray,
     offset: usize,
     len: usize,
-) -> Result<(), Fault>
+) -> Result<(), PlanFault>
     requires small { plan.old.end < 2 ^ 63 }
     ensures grows { OnOk result (Adds plan.old plan.new (written_levels (null_layout array.now) offset len)) }
     ensures takes { TakesLevels result (written_levels (null_layout array.now) offset len) plan.old.end plan.new.end }

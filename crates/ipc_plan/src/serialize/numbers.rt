@@ -8,21 +8,23 @@ ghost use Rattle.ipc_plan.specs.Taking.{TakesBuffers};
 ghost use Rattle.ipc_plan.specs.Plans.{AddsNumbers, AreSpelt, IsSpelt};
 
 use crate::pieces::{NumberSlice, Piece};
-use crate::plan::{Plan, push_buffer};
-use ipc_devices::{ArgFault, Fault};
+use crate::plan::{Plan, PlanFault, push_buffer};
 use lower::buffer::Buffer;
 use lower::types::NativeType;
 use lower_arrays::array::PrimitiveArray;
 
 // Plans a buffer of numbers.
-pub(crate) fn plan_numbers<'a>(plan: &mut Plan<'a>, numbers: NumberSlice<'a>) -> Result<(), Fault>
+pub(crate) fn plan_numbers<'a>(
+    plan: &mut Plan<'a>,
+    numbers: NumberSlice<'a>,
+) -> Result<(), PlanFault>
     requires small { plan.old.end < 2 ^ 63 }
     requires spelt { IsSpelt numbers }
     ensures grows { OnOk result (AddsNumbers plan.old plan.new (slice_type numbers.entry) (slice_numbers numbers.entry)) }
     ensures takes { TakesBuffers result (width_of (slice_type numbers.entry) * length (slice_numbers numbers.entry) ∷ []) plan.old.end plan.new.end }
 {
     let Some(len) = bytes_of(&numbers) else {
-        return Err(Fault::Argument(ArgFault::TooLarge));
+        return Err(PlanFault::Large);
     };
     push_buffer(plan, Piece::Numbers(numbers), len)
 }

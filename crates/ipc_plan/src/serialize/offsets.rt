@@ -19,8 +19,7 @@ ghost use Rattle.ipc_plan.specs.Plans.{AddsHead, AddsOffsets};
 use super::numbers::read_ranges;
 use super::validity::plan_start;
 use crate::pieces::{NumberSlice, Piece};
-use crate::plan::{Plan, push_buffer};
-use ipc_devices::{ArgFault, Fault};
+use crate::plan::{Plan, PlanFault, push_buffer};
 use lower::bitmap::Bitmap;
 use lower::offset::OffsetsBuffer;
 use lower_arrays::array::ListOffsets;
@@ -50,7 +49,7 @@ pub(crate) fn plan_head<'a>(
     offsets: Offsets<'a>,
     offset: usize,
     len: usize,
-) -> Result<(), Fault>
+) -> Result<(), PlanFault>
     requires small { plan.old.end < 2 ^ 63 }
     requires inside { offset + len < length (places_of offsets) }
     requires validity { ValidityHolds (option_copied validity) (offset + len) }
@@ -85,7 +84,7 @@ fn plan_small_offsets<'a>(
     offsets: &'a OffsetsBuffer<i32>,
     offset: usize,
     len: usize,
-) -> Result<(), Fault>
+) -> Result<(), PlanFault>
     requires small { plan.old.end < 2 ^ 63 }
     requires inside { offset + len < length offsets.now }
     ensures grows { OnOk result (AddsOffsets plan.old plan.new Named.Int32 (part offset (len + 1) offsets.now)) }
@@ -96,7 +95,7 @@ fn plan_small_offsets<'a>(
     let part = &offsets.as_slice()[offset..offset + len + 1];
     let piece = small_piece(part);
     let Some(count) = part.len().checked_mul(4) else {
-        return Err(Fault::Argument(ArgFault::TooLarge));
+        return Err(PlanFault::Large);
     };
     push_buffer(plan, piece, count)
 }
@@ -122,7 +121,7 @@ fn plan_large_offsets<'a>(
     offsets: &'a OffsetsBuffer<i64>,
     offset: usize,
     len: usize,
-) -> Result<(), Fault>
+) -> Result<(), PlanFault>
     requires small { plan.old.end < 2 ^ 63 }
     requires inside { offset + len < length offsets.now }
     ensures grows { OnOk result (AddsOffsets plan.old plan.new Named.Int64 (part offset (len + 1) offsets.now)) }
@@ -133,7 +132,7 @@ fn plan_large_offsets<'a>(
     let part = &offsets.as_slice()[offset..offset + len + 1];
     let piece = large_piece(part);
     let Some(count) = part.len().checked_mul(8) else {
-        return Err(Fault::Argument(ArgFault::TooLarge));
+        return Err(PlanFault::Large);
     };
     push_buffer(plan, piece, count)
 }

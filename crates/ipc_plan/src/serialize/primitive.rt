@@ -12,8 +12,7 @@ ghost use Rattle.ipc_plan.specs.Plans.{Adds, IsSpelt};
 use super::numbers::{plan_numbers, values_in};
 use super::validity::plan_start;
 use crate::pieces::NumberSlice;
-use crate::plan::Plan;
-use ipc_devices::Fault;
+use crate::plan::{Plan, PlanFault};
 use lower_arrays::array::AnyPrimitive;
 
 // Plans an array of numbers.
@@ -22,7 +21,7 @@ pub(crate) fn plan_primitive<'a>(
     array: &'a AnyPrimitive,
     offset: usize,
     len: usize,
-) -> Result<(), Fault>
+) -> Result<(), PlanFault>
     requires small { plan.old.end < 2 ^ 63 }
     requires inside { offset + len ≤ (numbers_seen array.now).len }
     ensures grows { OnOk result (Adds plan.old plan.new (written_levels (any_primitive_layout array.now) offset len)) }

@@ -7,8 +7,7 @@ ghost use Rattle.ipc_plan.specs.Plans.{Adds};
 
 use super::plan_beside;
 use super::validity::plan_start;
-use crate::plan::Plan;
-use ipc_devices::Fault;
+use crate::plan::{Plan, PlanFault};
 use lower_arrays::array::StructArray;
 
 // Plans structs: their own level, and the same slots of each child.
@@ -18,7 +17,7 @@ pub(crate) fn plan_struct<'a>(
     array: &'a StructArray,
     offset: usize,
     len: usize,
-) -> Result<(), Fault>
+) -> Result<(), PlanFault>
     requires small { plan.old.end < 2 ^ 63 }
     requires inside { offset + len ≤ array.now.len }
     ensures grows { OnOk result (Adds plan.old plan.new (written_levels (struct_layout array.now) offset len)) }

@@ -10,8 +10,7 @@ ghost use Rattle.ipc_plan.specs.Plans.{Adds};
 use super::numbers::{plan_numbers, slice_in};
 use super::{plan_beside, plan_whole};
 use crate::pieces::NumberSlice;
-use crate::plan::{Plan, push_node};
-use ipc_devices::Fault;
+use crate::plan::{Plan, PlanFault, push_node};
 use lower_arrays::array::UnionArray;
 
 // Plans unions: their own level, and the same slots of each child, or all slots if the union is
@@ -22,7 +21,7 @@ pub(crate) fn plan_union<'a>(
     array: &'a UnionArray,
     offset: usize,
     len: usize,
-) -> Result<(), Fault>
+) -> Result<(), PlanFault>
     requires small { plan.old.end < 2 ^ 63 }
     requires inside { offset + len ≤ length array.now.types }
     ensures grows { OnOk result (Adds plan.old plan.new (written_levels (union_layout array.now) offset len)) }
@@ -42,7 +41,7 @@ fn plan_union_level<'a>(
     array: &'a UnionArray,
     offset: usize,
     len: usize,
-) -> Result<(), Fault>
+) -> Result<(), PlanFault>
     requires small { plan.old.end < 2 ^ 63 }
     requires inside { offset + len ≤ length array.now.types }
     ensures grows { OnOk result (Adds plan.old plan.new (cut_level offset len (level (union_layout array.now)) ∷ [])) }

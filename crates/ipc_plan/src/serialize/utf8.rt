@@ -9,8 +9,7 @@ ghost use Rattle.ipc_plan.specs.Plans.{Adds};
 
 use super::binary::plan_cut_out;
 use super::offsets::Offsets;
-use crate::plan::Plan;
-use ipc_devices::Fault;
+use crate::plan::{Plan, PlanFault};
 use lower_arrays::array::Utf8Array;
 
 // Plans an array of texts with 32-bit offsets.
@@ -19,7 +18,7 @@ pub(crate) fn plan_small_utf8<'a>(
     array: &'a Utf8Array<i32>,
     offset: usize,
     len: usize,
-) -> Result<(), Fault>
+) -> Result<(), PlanFault>
     requires small { plan.old.end < 2 ^ 63 }
     requires inside { offset + len ≤ span_count array.now.offsets }
     ensures grows { OnOk result (Adds plan.old plan.new (written_levels (texts_layout Named.Int32 array.now) offset len)) }
@@ -42,7 +41,7 @@ pub(crate) fn plan_large_utf8<'a>(
     array: &'a Utf8Array<i64>,
     offset: usize,
     len: usize,
-) -> Result<(), Fault>
+) -> Result<(), PlanFault>
     requires small { plan.old.end < 2 ^ 63 }
     requires inside { offset + len ≤ span_count array.now.offsets }
     ensures grows { OnOk result (Adds plan.old plan.new (written_levels (texts_layout Named.Int64 array.now) offset len)) }

@@ -4,15 +4,14 @@
 ghost use Rattle.std.specs.Prelude.{◌≡◌, ℕ, slice_index, ◌+◌, ◌^◌, ◌<◌, ◌≤◌, [], ◌∷◌, length, IfErr, IfOk, OnOk};
 ghost use Rattle.std.specs.Option.{option_copied};
 ghost use Rattle.lower_flat_arrays.specs.Validities.{part, cut_validity, null_count_of, ValidityHolds};
-ghost use Rattle.ipc_devices.specs.declared.fault.Fault.TheVariants.{Memory};
+ghost use Rattle.ipc_plan.specs.declared.plan.PlanFault.TheVariants.{NoMemory};
 ghost use Rattle.ipc_model.specs.Entries.{bytes_for};
 ghost use Rattle.ipc_model.specs.Offers.{validity_length};
 ghost use Rattle.ipc_plan.specs.Taking.{TakesBuffers, TakesLevel};
 ghost use Rattle.ipc_plan.specs.Plans.{AddsBits, AddsClear, AddsStart, AddsValidity};
 
 use crate::pieces::Piece;
-use crate::plan::{Plan, push_buffer, push_node};
-use ipc_devices::Fault;
+use crate::plan::{Plan, PlanFault, push_buffer, push_node};
 use lower::bitmap::Bitmap;
 use lower_flat_arrays::validity::unset_bits;
 
@@ -22,7 +21,7 @@ pub(crate) fn plan_start<'a>(
     validity: Option<&'a Bitmap>,
     offset: usize,
     len: usize,
-) -> Result<(), Fault>
+) -> Result<(), PlanFault>
     requires small { plan.old.end < 2 ^ 63 }
     requires validity { ValidityHolds (option_copied validity) (offset + len) }
     ensures grows { OnOk result (AddsStart plan.old plan.new len (cut_validity offset len (option_copied validity.entry))) }
@@ -36,11 +35,11 @@ pub(crate) fn plan_start<'a>(
 
 // The number of null slots among some. A clone of a bitmap copies no bits and allocates nothing; it
 // fails only if the count of owners can't grow.
-fn nulls_in(validity: Option<&Bitmap>, offset: usize, len: usize) -> Result<usize, Fault>
+fn nulls_in(validity: Option<&Bitmap>, offset: usize, len: usize) -> Result<usize, PlanFault>
     requires inside { ValidityHolds (option_copied validity) (offset + len) }
     ensures count { IfOk result (λ n. n ≡ null_count_of (cut_validity offset len (option_copied validity.entry))) }
     ensures few { IfOk result (λ n. n ≤ len) }
-    ensures only { IfErr result (λ e. e ≡ Memory) }
+    ensures only { IfErr result (λ e. e ≡ NoMemory) }
 {
     match validity {
         None => Ok(0),
@@ -57,7 +56,7 @@ fn plan_validity<'a>(
     validity: Option<&'a Bitmap>,
     offset: usize,
     len: usize,
-) -> Result<(), Fault>
+) -> Result<(), PlanFault>
     requires small { plan.old.end < 2 ^ 63 }
     requires inside { ValidityHolds (option_copied validity) (offset + len) }
     ensures grows { OnOk result (AddsValidity plan.old plan.new (cut_validity offset len (option_copied validity.entry))) }
@@ -76,7 +75,7 @@ pub(crate) fn plan_bits<'a>(
     bits: &'a Bitmap,
     offset: usize,
     len: usize,
-) -> Result<(), Fault>
+) -> Result<(), PlanFault>
     requires small { plan.old.end < 2 ^ 63 }
     requires inside { offset + len ≤ length bits.now }
     ensures grows { OnOk result (AddsBits plan.old plan.new (part offset len bits.now)) }

@@ -4,7 +4,8 @@ use Rattle.lower_arrays.specs.AnyLayouts.{layout_of}
 use Rattle.ipc_model.specs.Accepted.{body_length}
 use Rattle.ipc_model.specs.Offers.{body_lengths, whole_levels, written_levels}
 use Rattle.ipc_plan.specs.Plans.{Adds}
-use Rattle.ipc_plan.specs.Taking.{AreShort, RefusesLength}
+use Rattle.ipc_plan.specs.Taking.{AreShort, RefusesRoom}
+use Rattle.ipc_plan.proofs.Taking.{refused_whole}
 use Rattle.ipc_plan.specs.declared.plan.Plan.{Plan}
 use Rattle.ipc_encode.specs.Appending.{PlansFrom}
 use Rattle.ipc_encode.proofs.Appended.{planned_length}
@@ -47,5 +48,6 @@ returns-in_err-plan_array-clause-takes c =
     let l = layout_of c.args.array.now in
     let e = err_from_is_err_and c.from_residual.result c.from_residual.ensures.1 in
     rw (e.1, e.2)
-    (subst (λ (k : ℕ). RefusesLength (AreShort (written_levels l 0 k)) (c.args.start + body_length (body_lengths (written_levels l 0 k))) c.in_err-plan_array.field-0.0) c.len-len.ensures.len
-    c.in_err-plan_array.ensures.takes)
+    (refused_whole c.in_err-plan_array.field-0.0 (AreShort (whole_levels l)) (c.args.start + body_length (body_lengths (whole_levels l)))
+    (subst (λ (k : ℕ). RefusesRoom (AreShort (written_levels l 0 k)) (c.args.start + body_length (body_lengths (written_levels l 0 k))) c.in_err-plan_array.field-0.0) c.len-len.ensures.len
+    c.in_err-plan_array.ensures.takes))

@@ -22,20 +22,20 @@ use Rattle.lower_arrays.specs.Structs.{struct_layout}
 use Rattle.lower_arrays.specs.Unions.{union_layout}
 use Rattle.lower_arrays.proofs.Children.{height_at, reach_at}
 use Rattle.lower_arrays.proofs.CutRules.{have-reach}
-use Rattle.ipc_devices.specs.declared.fault.Fault.{Fault}
 use Rattle.ipc_model.specs.Accepted.{IsSayable, body_length}
 use Rattle.ipc_model.specs.Offers.{written_levels, whole_levels, levels_below, offsets_length, validity_length}
 use Rattle.ipc_plan.specs.Plans.{Adds, AddsHead, AddsStart}
 use Rattle.ipc_plan.specs.OffsetViews.{places_of, type_of_offsets}
-use Rattle.ipc_plan.specs.Taking.{AreShort, RefusesLength, TakesLevels}
+use Rattle.ipc_plan.specs.Taking.{AreShort, RefusesRoom, TakesLevels}
 use Rattle.ipc_plan.specs.declared.plan.Plan.{Plan}
+use Rattle.ipc_plan.specs.declared.plan.PlanFault.{PlanFault}
 use Rattle.ipc_plan.proofs.Growing.{on_ok, adds_then, adds_none, child_then, lists_adds, maps_adds, fixed_lists_adds, scaled_wide, records_adds, levels_more, columns_more}
 use Rattle.ipc_plan.proofs.Taking.{room, own_room, room-both, short-both, start_exit, level_exit, child_takes, levels_then, levels_exit, beside_rest, whole_rest, sparse_children, dense_children}
 use Rattle.ipc_plan.proofs.serialize.+plans.Goals as goal
 
 -- Lists are planned alike in either variant of AnyArray.
 planned_list :
-    (named : PrimitiveType) (p q r : Plan) (a : ListSeen) (o n first last : ℕ) (w : PrimitiveType) (os : List ℕ) (v : Validity) (l : Layout) (x : Result Unit Fault)
+    (named : PrimitiveType) (p q r : Plan) (a : ListSeen) (o n first last : ℕ) (w : PrimitiveType) (os : List ℕ) (v : Validity) (l : Layout) (x : Result Unit PlanFault)
     → w ≡ a.width → os ≡ a.offsets → v ≡ a.validity → l ≡ a.child → first ≡ slice_index a.offsets o → last ≡ slice_index a.offsets (o + n)
     → AddsHead p q n w (part o (n + 1) os) (cut_validity o n v) → OnOk x (Adds q r (written_levels l first (last - first)))
     → OnOk x (Adds p r (written_levels (list_layout_as named a) o n))
@@ -128,7 +128,7 @@ list::plan_list-returns-in_err-plan_head-clause-takes t c =
     let width : type_of_offsets c.list_offsets-offsets.result ≡ a.width = c.list_offsets-offsets.ensures.width ∙ c.offsets.ensures.width in
     let own = ap₂ (λ (w : Validity) (z : PrimitiveType). p.end + body_length (validity_length (cut_validity o n w) n ∷ offsets_length z n ∷ [])) c.validity.ensures.bits width in
     level_exit c.from_residual.result c.in_err-plan_head.field-0.0 h (written_levels a.child (slice_index a.offsets o) (slice_index a.offsets (o + n) - slice_index a.offsets o) ++ []) p.end _ (own_room h) c.from_residual.ensures.1 (omega arith)
-    (subst (λ (k : ℕ). RefusesLength (IsSayable n) k c.in_err-plan_head.field-0.0) own c.in_err-plan_head.ensures.takes)
+    (subst (λ (k : ℕ). RefusesRoom (IsSayable n) k c.in_err-plan_head.field-0.0) own c.in_err-plan_head.ensures.takes)
 
 pub list::plan_list-returns-clause-takes : goal.list::plan_list-returns-clause-takes
 list::plan_list-returns-clause-takes t c =
@@ -161,7 +161,7 @@ map::plan_map-returns-in_err-plan_head-clause-takes t c =
     let h = cut_level o n (level (map_layout a)) in
     let own = ap (λ (w : Validity). p.end + body_length (validity_length (cut_validity o n w) n ∷ offsets_length Int32 n ∷ [])) c.validity.ensures.bits in
     level_exit c.from_residual.result c.in_err-plan_head.field-0.0 h (written_levels a.child (slice_index a.offsets o) (slice_index a.offsets (o + n) - slice_index a.offsets o) ++ []) p.end _ (own_room h) c.from_residual.ensures.1 (omega arith)
-    (subst (λ (k : ℕ). RefusesLength (IsSayable n) k c.in_err-plan_head.field-0.0) own c.in_err-plan_head.ensures.takes)
+    (subst (λ (k : ℕ). RefusesRoom (IsSayable n) k c.in_err-plan_head.field-0.0) own c.in_err-plan_head.ensures.takes)
 
 pub map::plan_map-returns-clause-takes : goal.map::plan_map-returns-clause-takes
 map::plan_map-returns-clause-takes t c =
@@ -315,7 +315,7 @@ plan_whole-returns-in_err-plan_array-clause-takes t c =
     let amid = whole_rest xs i y c.loop-array-test.true c.array-item.is in
     levels_exit c.from_residual.result c.in_err-plan_array.field-0.0 (flat_map whole_levels (map layout_of xs)) (flat_map whole_levels (map layout_of (take i xs))) (whole_levels (layout_of y)) amid.rest
     c.args.plan.now.end m.end _ amid.same c.loop-array.invariant.end c.from_residual.ensures.1
-    (subst (λ (k : ℕ). RefusesLength (AreShort (written_levels (layout_of y) 0 k)) (m.end + room (written_levels (layout_of y) 0 k)) c.in_err-plan_array.field-0.0) c.len-len.ensures.len c.in_err-plan_array.ensures.takes)
+    (subst (λ (k : ℕ). RefusesRoom (AreShort (written_levels (layout_of y) 0 k)) (m.end + room (written_levels (layout_of y) 0 k)) c.in_err-plan_array.field-0.0) c.len-len.ensures.len c.in_err-plan_array.ensures.takes)
 
 pub plan_whole-returns-clause-grows : goal.plan_whole-returns-clause-grows
 plan_whole-returns-clause-grows t c =
