@@ -31,7 +31,7 @@ use Rattle.ipc_write.specs.declared.stream.WriterState.TheVariants.{Started}
 use Rattle.ipc_file_lemmas.specs.FileBytes.{Sent, all_bytes, sent_bytes}
 use Rattle.ipc_file_write.specs.Blocks.{HasBlocksFrom, RefusesPlace, RefusesBlockRoom, sent}
 use Rattle.ipc_file_write.specs.FileWriters.{FileSeen}
-use Rattle.ipc_file_write.specs.Writes.{AnswersWrite, HasNoPlace, MayBeWritten, MayList, MissesWrite, RefusesChunk, RefusesRoom, RefusesSending, WritesExactly, as_stream, block_count}
+use Rattle.ipc_file_write.specs.Writes.{AnswersWrite, HasNoPlace, MayBeWritten, MayList, MissesWrite, RefusesChunk, RefusesBlocks, RefusesSending, WritesExactly, as_stream, block_count}
 use Rattle.ipc_file_write.specs.declared.blocks.Placed.{Placed}
 use Rattle.ipc_file_write.proofs.Exactness.{blocks_count, blocks_end, chunk_places, chunks_long, kept_known, kept_remembered, lists_one, values_count}
 use Rattle.ipc_file_write.proofs.PlacedMessages.{bytes_more}
@@ -90,7 +90,7 @@ module _ {W : Type 0} (w : FileSeen W) (known : Dictionaries) (columns : List An
   chunk_missed _ (inr h) = absurd h
 
   -- There is no room for the blocks of the dictionaries to write, and for that of the record.
-  pub room_missed : (list : List FilledPlace) (e : Fault) → MayList w columns ids list → RefusesRoom (block_count w) (length list) e → MissesWrite w known columns ids e
+  pub room_missed : (list : List FilledPlace) (e : Fault) → MayList w columns ids list → RefusesBlocks (block_count w) (length list) e → MissesWrite w known columns ids e
   room_missed list (Argument TooLarge) may h = λ x.
       let m = x.1.messages in
       let same = lists_one w.remembers (values_of (layouts (map layout_of columns)) w.ids) list m.list may.lists.lists m.lists in
@@ -212,13 +212,13 @@ module _ {W : Type 0} (w : FileSeen W) (columns : List AnyArray) (ids : Option I
     ];
   }
 
-  pub room_exactly : (list : List FilledPlace) (e : Fault) (count : ℕ) → MayList w columns ids list → ¬ (¬ IsWritable w.fields w.metadata w.ids) → count ≡ length list → RefusesRoom (block_count w) count e → WritesExactly w columns ids (Err e)
+  pub room_exactly : (list : List FilledPlace) (e : Fault) (count : ℕ) → MayList w columns ids list → ¬ (¬ IsWritable w.fields w.metadata w.ids) → count ≡ length list → RefusesBlocks (block_count w) count e → WritesExactly w columns ids (Err e)
   room_exactly list e count may writable same h = record {
     known = known;
     agrees = agrees;
     exact = λ ds agree.
         not_denied w ds columns ids e writable (λ k.
-        answers_missed w ds columns ids agree k e (room_missed w ds columns ids agree k list e may (subst (λ (n : ℕ). RefusesRoom (block_count w) n e) same h)));
+        answers_missed w ds columns ids agree k e (room_missed w ds columns ids agree k list e may (subst (λ (n : ℕ). RefusesBlocks (block_count w) n e) same h)));
   }
 
   pub memory_exactly : (e : Fault) → e ≡ Memory → WritesExactly w columns ids (Err e)

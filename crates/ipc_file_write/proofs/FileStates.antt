@@ -1,5 +1,5 @@
 -- The bytes of a file writer after each call.
-use Rattle.std.proofs.Common.{◌≡◌, ℕ, ◌+◌, ◌%◌, ◌≤◌, Bool, IsTrue, List, [], ◌∷◌, ◌++◌, length, take, replicate, None, Some, refl, sym, ap, ◌∙◌, subst, append_assoc, append-nil, length-append, arith, Ok, Err}
+use Rattle.std.proofs.Common.{◌≡◌, ℕ, ◌+◌, ◌%◌, ◌≤◌, Bool, IsTrue, List, [], ◌∷◌, ◌++◌, length, take, replicate, None, Some, refl, sym, ap, ◌∙◌, subst, append_assoc, append-nil, length-append, arith, Result, Ok, Err}
 use Rattle.ipc_devices.proofs.Acts.{none_answered}
 use Rattle.ipc_devices.specs.Device.{Device, IsAnswered, Memory, WritesOver, before}
 use Rattle.ipc_devices.specs.Faults.{OnIo, OnRefused}
@@ -23,14 +23,15 @@ use Rattle.ipc_model.specs.Writable.{IsWritable, file_weight, weight}
 use Rattle.ipc_schema_write.specs.WriterAnswers.{RefusesSchema, max_weight, written_head_as}
 use Rattle.ipc_write.specs.declared.stream.WriterState.{WriterState}
 use Rattle.ipc_write.specs.declared.stream.WriterState.TheVariants.{New, Started, Finished, Failed}
-use Rattle.ipc_write.specs.Sending.{Delivers, OnSent}
+use Rattle.ipc_write.specs.Sending.{Delivers, Flushes, OnSent}
+use Rattle.ipc_write.specs.Writers.{LeavesFlushed, LeavesState}
 use Rattle.ipc_footer_write.specs.Footers.{HasFooter, tail_of}
 use Rattle.std.proofs.lemmas.List.{length-replicate, take-append-le}
 use Rattle.ipc_file_lemmas.proofs.Ends.{chunk_ends, chunk_natural, chunk_reaches, no_ends, none_at_all}
 use Rattle.ipc_file_lemmas.specs.FileBytes.{EndsStreamBehind, HoldsFile, HasStreamBehind, SendsChunk, Sent, all_bytes, block_at, blocks_at, chunk_bytes, file_head}
 use Rattle.ipc_file_lemmas.proofs.FileSteps.{end_law, grow_law, start_law, write_law}
 use Rattle.ipc_file_lemmas.proofs.StreamSteps.{stream_end_law, stream_start_law, stream_write_law}
-use Rattle.ipc_file_write.specs.FileWriters.{FileIs, FileSeen, FileStep, HoldsBytes, IsEnding, IsFresh, IsOpenFile, IsSameFile, Kept, MayFinish, MayStart, ReachesEnd, RefusesFinish, RefusesStart, Remains, RemembersSame, SendsBeginning, SendsEnding, TakesPairs, ending_bytes, fault_if_over, head_of_file}
+use Rattle.ipc_file_write.specs.FileWriters.{FileIs, FileSeen, FileStep, HoldsBytes, IsEnding, IsFresh, IsOpenFile, IsSameFile, Kept, MayFinish, MayStart, ReachesEnd, RefusesFinish, RefusesStart, Remains, RemembersSame, SendsBeginning, SendsEnding, TakesPairs, ending_bytes, fault_if_over, head_of_file, flushed_file}
 use Rattle.ipc_file_write.specs.declared.sending.Ending.{Ending}
 use Rattle.ipc_file_write.specs.declared.writer.Starting.{Starting}
 
@@ -237,6 +238,74 @@ open_same is_stream a b bytes cs same place h = record {
   natural = rw (same.dictionaries, same.blocks) h.natural;
   reached = rw (same.dictionaries, same.blocks, place) h.reached;
   last = rw (same.dictionaries, same.blocks, place) h.last;
+}
+
+-- ---- flush
+
+module _ {W : Type 0} (d : Device W) (a : FileSeen W) (w : W) (same : d.memory w ≡ d.memory a.device) where
+  -- The writer with this device, which has the same bytes.
+  abbrev there : WriterState → FileSeen W
+  there s = flushed_file a w s
+
+  blocks_there : (s : WriterState) → SameBlocks a (there s)
+  blocks_there s = record { order = refl; fields = refl; metadata = refl; ids = refl; pairs = refl; remembers = λ id. refl; dictionaries = refl; blocks = refl; size = refl }
+
+  file_stays : (is_stream : Bool) (s s' : WriterState) (bytes : List ℕ) (cs : List Chunk) → FileIs is_stream s a bytes cs → FileIs is_stream s (there s') bytes cs
+  file_stays is_stream New s' bytes cs h = record { none = h.none; no_chunks = h.no_chunks; nothing = h.nothing; no_dictionaries = h.no_dictionaries; no_blocks = h.no_blocks }
+  file_stays is_stream Started s' bytes cs h = open_same is_stream a (there s') bytes cs (blocks_there s') refl h
+  file_stays is_stream Finished s' bytes cs h = record {
+    file = h.file;
+    stream = h.stream;
+    front = h.front;
+    behind = h.behind;
+    bytes_are = h.bytes_are;
+    open_front = open_same is_stream a (there s') h.front cs (blocks_there s') refl h.open_front;
+    long = h.long;
+  }
+  file_stays is_stream Failed s' bytes cs h = h
+
+  -- What a device has that failed before anything was sent.
+  file_breaks : (is_stream : Bool) (s s' : WriterState) (bytes : List ℕ) (cs : List Chunk) → (s ≡ Finished → ⊥) → FileIs is_stream s a bytes cs → FileIs is_stream Failed (there s') bytes cs
+  file_breaks is_stream New s' bytes cs going h =
+      fresh_file (head_of_file a).schema a.size bytes a.dictionaries a.blocks a.remembers cs h.no_dictionaries h.no_blocks h.no_chunks h.nothing
+  file_breaks is_stream Started s' bytes cs going h = h.file
+  file_breaks is_stream Finished s' bytes cs going h = absurd (going refl)
+  file_breaks is_stream Failed s' bytes cs going h = h
+
+  flush_stays : (s' : WriterState) → s' ≡ a.state → (is_stream : Bool) (base : List ℕ) (cs : List Chunk) → HoldsBytes is_stream (d.memory a.device) a base cs → HoldsBytes is_stream (d.memory w) (there s') base cs
+  flush_stays s' e is_stream base cs h = record {
+    bytes = h.bytes;
+    held = ap before same ∙ h.held;
+    file = at_state is_stream a.state s' (there s') h.bytes cs (sym e) (file_stays is_stream a.state s' h.bytes cs h.file);
+  }
+
+  flush_breaks : (s' : WriterState) → s' ≡ Failed → (a.state ≡ Finished → ⊥) → (is_stream : Bool) (base : List ℕ) (cs : List Chunk) → HoldsBytes is_stream (d.memory a.device) a base cs
+      → HoldsBytes is_stream (d.memory w) (there s') base cs
+  flush_breaks s' e going is_stream base cs h = record {
+    bytes = h.bytes;
+    held = ap before same ∙ h.held;
+    file = at_state is_stream Failed s' (there s') h.bytes cs (sym e) (file_breaks is_stream a.state s' h.bytes cs going h.file);
+  }
+
+  flush_left : (r : Result (Unit {0}) Fault) (s s' : WriterState) → a.state ≡ s → (s ≡ Finished → ⊥) → LeavesState r s s' → (is_stream : Bool) (base : List ℕ) (cs : List Chunk)
+      → HoldsBytes is_stream (d.memory a.device) a base cs → HoldsBytes is_stream (d.memory w) (there s') base cs
+  flush_left (Ok x) s s' was going e is_stream base cs h = flush_stays s' (e ∙ sym was) is_stream base cs h
+  flush_left (Err (Io x)) s s' was going e is_stream base cs h = flush_breaks s' e (λ done. going (sym was ∙ done)) is_stream base cs h
+  flush_left (Err _) s s' was going e is_stream base cs h = flush_stays s' (e ∙ sym was) is_stream base cs h
+
+  pub flushed_holds : (r : Result (Unit {0}) Fault) (s s' : WriterState) → a.state ≡ s → LeavesFlushed r s s' → (is_stream : Bool) (base : List ℕ) (cs : List Chunk)
+      → HoldsBytes is_stream (d.memory a.device) a base cs → HoldsBytes is_stream (d.memory w) (there s') base cs
+  flushed_holds r New s' was e is_stream base cs h = flush_left r New s' was (λ done. cc) e is_stream base cs h
+  flushed_holds r Started s' was e is_stream base cs h = flush_left r Started s' was (λ done. cc) e is_stream base cs h
+  flushed_holds r Finished s' was e is_stream base cs h = flush_stays s' (e ∙ sym was) is_stream base cs h
+  flushed_holds r Failed s' was e is_stream base cs h = flush_left r Failed s' was (λ done. cc) e is_stream base cs h
+
+-- A flush changes no chunk.
+pub flush_remains : {W : Type 0} (d : Device W) (a b : FileSeen W) (r : Result (Unit {0}) Fault) → Flushes d a.device r b.device → LeavesFlushed r a.state b.state
+    → b ≡ flushed_file a b.device b.state → Remains d a b
+flush_remains {W} d a b r f leaves same = record {
+  kept = λ k is_stream base cs h.
+      subst (λ (x : FileSeen W). HoldsBytes is_stream (d.memory b.device) x base cs) (sym same) (flushed_holds d a b.device (f.memory k) r a.state b.state refl leaves is_stream base cs h);
 }
 
 -- ---- other pairs

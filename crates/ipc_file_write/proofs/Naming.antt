@@ -13,7 +13,7 @@ use Rattle.ipc_write.proofs.Refusals.{of_messages}
 use Rattle.ipc_file_lemmas.specs.FileBytes.{Sent, sent_bytes}
 use Rattle.ipc_file_write.specs.Blocks.{RefusesBlockRoom}
 use Rattle.ipc_file_write.specs.FileWriters.{FileSeen}
-use Rattle.ipc_file_write.specs.Writes.{NamesOne, RefusesChunk, RefusesRoom, RefusesSending}
+use Rattle.ipc_file_write.specs.Writes.{NamesOne, RefusesChunk, RefusesBlocks, RefusesSending}
 
 module _ {W : Type 0} (w : FileSeen W) (columns : List AnyArray) where
   -- A refusal before its messages are made.
@@ -25,7 +25,7 @@ module _ {W : Type 0} (w : FileSeen W) (columns : List AnyArray) where
   chunk_names ids _ h = tt
 
   -- no other refusal names one
-  pub room_names : (count added : ℕ) (e : Fault) → RefusesRoom count added e → NamesOne w columns e
+  pub room_names : (count added : ℕ) (e : Fault) → RefusesBlocks count added e → NamesOne w columns e
   room_names count added (Argument (SharedDictionary j)) h = absurd h
   room_names count added (Argument (DictionaryReplaced j)) h = absurd h
   room_names count added _ h = tt

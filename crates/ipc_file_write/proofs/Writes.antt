@@ -37,7 +37,7 @@ use Rattle.ipc_write.specs.declared.stream.WriterState.TheVariants.{Failed, Star
 use Rattle.ipc_file_lemmas.specs.FileBytes.{Sent, chunk_bytes, sent_bytes}
 use Rattle.ipc_file_write.specs.Blocks.{HasBlocksFrom, RefusesBlockRoom, sent}
 use Rattle.ipc_file_write.specs.FileWriters.{FileSeen, IsSameFile, Kept}
-use Rattle.ipc_file_write.specs.Writes.{Appends, HandsChunk, MayList, RefusesChunk, RefusesRoom, RefusesSending, SendsColumns, TakesChunk, WhereSent, as_stream, field_normal}
+use Rattle.ipc_file_write.specs.Writes.{Appends, HandsChunk, MayList, RefusesChunk, RefusesBlocks, RefusesSending, SendsColumns, TakesChunk, WhereSent, as_stream, field_normal}
 use Rattle.ipc_file_write.specs.declared.blocks.Placed.{Placed}
 use Rattle.ipc_write.proofs.Deliveries.{delivered_as, failed_as}
 use Rattle.ipc_file_write.proofs.EncodedMessages.{sends_chunk}
@@ -85,7 +85,7 @@ all_refuse w columns ids (Argument (DictionaryReplaced j)) f h = inr (f, h)
 all_refuse w columns ids (Argument FieldsShape) f h = inl (f, h)
 all_refuse w columns ids _ f h = absurd h
 
-pub room_not_io : (count added : ℕ) (e : Fault) → RefusesRoom count added e → (P : Type 0) → OnIo {X = Unit {0}} (Err e) P
+pub room_not_io : (count added : ℕ) (e : Fault) → RefusesBlocks count added e → (P : Type 0) → OnIo {X = Unit {0}} (Err e) P
 room_not_io count added (Io x) h P = absurd h
 room_not_io count added _ h P = tt
 

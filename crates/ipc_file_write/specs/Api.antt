@@ -1,6 +1,6 @@
 -- What each call of a file writer does.
 -- (Arrow columnar format, "IPC File Format".)
-use Rattle.std.specs.Prelude.{◌≡◌, IsTrue, List, [], Option, Result, IfErr, IfOk, OnErr, OnOk}
+use Rattle.std.specs.Prelude.{◌≡◌, IsTrue, List, [], Option, Result, Err, IfErr, IfOk, IfSome, OnErr, OnOk}
 use Rattle.lower.specs.TypeTrees.{FieldTrees, Pairs}
 use Rattle.lower_arrays.specs.declared.array.AnyArray.{AnyArray}
 use Rattle.lower_types.specs.declared.Endianness.{Endianness}
@@ -8,14 +8,16 @@ use Rattle.ipc_base.specs.IdTrees.{IdTrees}
 use Rattle.ipc_devices.specs.Device.{Device, IsAnswered, before}
 use Rattle.ipc_devices.specs.Faults.{IfIo, OnIo}
 use Rattle.ipc_devices.specs.declared.fault.Fault.{Fault}
+use Rattle.ipc_devices.specs.declared.fault.Fault.TheVariants.{State}
 use Rattle.ipc_devices.specs.declared.fault.StateFault.{StateFault}
 use Rattle.ipc_model.specs.Files.{FileMetadata}
 use Rattle.ipc_write.specs.Meaning.{chunk_written}
-use Rattle.ipc_write.specs.Writers.{fault_unless_new, fault_unless_started}
+use Rattle.ipc_write.specs.Sending.{Flushes}
+use Rattle.ipc_write.specs.Writers.{LeavesFlushed, RefusesFlush, fault_if_failed, fault_unless_new, fault_unless_started}
 use Rattle.ipc_write.specs.declared.stream.WriterState.TheVariants.{New, Started}
 use Rattle.ipc_file_write.specs.Appends.{AreEmptyScratches, DeviceFails, GoesOnAgain, GoesOnWith, OpensFile, RefusesFile, RefusesNoWhole}
 use Rattle.ipc_file_write.specs.Beginnings.{StartsNew}
-use Rattle.ipc_file_write.specs.FileWriters.{Agrees, AnswersFinish, AnswersStart, EndsWith, FileSeen, HasNothing, IsFileOf, OrFails, ReachesEnd, RefusesFinish, RefusesStart, Remains, SendsBeginning, SendsEnding, StartsWith, StateComesFirst, TakesNoPairs, TakesPairs, fault_if_over, scratches_of, seen}
+use Rattle.ipc_file_write.specs.FileWriters.{Agrees, AnswersFinish, AnswersStart, EndsWith, FileSeen, HasNothing, IsFileOf, OrFails, ReachesEnd, RefusesFinish, RefusesStart, Remains, SendsBeginning, SendsEnding, StartsWith, StateComesFirst, TakesNoPairs, TakesPairs, fault_if_over, flushed_file, scratches_of, seen}
 use Rattle.ipc_file_write.specs.Writes.{Appends, NamesOne, SendsColumns, WritesExactly}
 use Rattle.ipc_file_write.specs.declared.file.FileWriter.{FileWriter}
 
@@ -112,6 +114,26 @@ pub record FinishesFile {W : Type 0} (d : Device W) (a : FileSeen W) (r : Result
   pub bounds : OnOk r (ReachesEnd d a b)
   -- If it is Ok, the writer was started, and is finished.
   pub state : StateStep (fault_unless_started a.state) (EndsWith a b) a r b
+  -- In memory, the file has the chunks that it had.
+  pub content : Remains d a b
+
+-- How a flush changes a writer.
+pub record FileFlushStep {W : Type 0} (a : FileSeen W) (r : Result Unit Fault) (b : FileSeen W) : Type 0 where
+  -- The state is checked before all else.
+  pub first : IfSome (fault_if_failed a.state) (λ e. r ≡ Err (State e))
+  -- After an error of the device, the writer has failed, unless it is finished.
+  pub state : LeavesFlushed r a.state b.state
+  -- But for its device and its state, it is as it was.
+  pub same : b ≡ flushed_file a b.device b.state
+
+-- `flush`: it took the writer from a to b.
+pub record FlushesFile {W : Type 0} (d : Device W) (a : FileSeen W) (r : Result Unit Fault) (b : FileSeen W) : Type 0 where
+  -- What each error means.
+  pub causes : IfErr r (RefusesFlush a.state)
+  -- Nothing was sent, and what the device says of the flush.
+  pub device : Flushes d a.device r b.device
+  -- What of the writer stays.
+  pub state : FileFlushStep a r b
   -- In memory, the file has the chunks that it had.
   pub content : Remains d a b
 

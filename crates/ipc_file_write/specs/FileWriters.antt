@@ -187,6 +187,24 @@ pub record Kept {W : Type 0} (a b : FileSeen W) : Type 0 where
   pub blocks : b.blocks ≡ a.blocks
   pub place : b.place ≡ a.place
 
+-- All but the device and the state of a writer stays.
+abbrev pub flushed_file : {W : Type 0} → FileSeen W → W → WriterState → FileSeen W
+flushed_file a device state = record {
+  device = device;
+  state = state;
+  order = a.order;
+  fields = a.fields;
+  metadata = a.metadata;
+  chosen = a.chosen;
+  ids = a.ids;
+  pairs = a.pairs;
+  remembers = a.remembers;
+  dictionaries = a.dictionaries;
+  blocks = a.blocks;
+  place = a.place;
+  size = a.size;
+}
+
 -- Byte order, schema, chosen ids, pairs and size stay, whatever is sent.
 pub record IsSameFile {W : Type 0} (a b : FileSeen W) : Type 0 where
   pub order : b.order ≡ a.order

@@ -171,10 +171,10 @@ abbrev pub RefusesChunk : {W : Type 0} → FileSeen W → List AnyArray → Opti
 RefusesChunk w columns ids e = StreamRefuses (as_stream w) columns ids e ⊎ ReplacesSome w columns e
 
 -- Why there is no room for the blocks of a record and of `added` dictionaries after `count` blocks.
-abbrev pub RefusesRoom : ℕ → ℕ → Fault → Type 0
-RefusesRoom count added (Argument TooLarge) = most_blocks < count + added + 1
-RefusesRoom count added NoMemory = Unit {0}
-RefusesRoom count added _ = ⊥
+abbrev pub RefusesBlocks : ℕ → ℕ → Fault → Type 0
+RefusesBlocks count added (Argument TooLarge) = most_blocks < count + added + 1
+RefusesBlocks count added NoMemory = Unit {0}
+RefusesBlocks count added _ = ⊥
 
 -- The messages of some columns are made, and one of them has no block.
 pub record HasNoPlace (order : Endianness) (columns : List Layout) (list : List FilledPlace) (place : ℕ) (e : Fault) : Type 0 where

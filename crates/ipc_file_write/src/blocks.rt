@@ -4,7 +4,7 @@ ghost use Rattle.ipc_model.specs.Accepted.{most_blocks};
 ghost use Rattle.ipc_file_lemmas.specs.FileBytes.{all_bytes, block_at, blocks_at, sent_bytes};
 ghost use Rattle.ipc_chunks.specs.Messages.{HaveWholeBodies, HasWholeBody};
 ghost use Rattle.ipc_file_write.specs.Blocks.{HasBlocksFrom, RefusesPlace, RefusesBlockRoom, sent_seen};
-ghost use Rattle.ipc_file_write.specs.Writes.{RefusesRoom};
+ghost use Rattle.ipc_file_write.specs.Writes.{RefusesBlocks};
 
 use ipc_chunks::messages::Messages;
 use ipc_devices::fault::{ArgFault, Fault};
@@ -113,7 +113,7 @@ pub(crate) fn make_room(
     ensures few { OnOk result (length dictionary_blocks.old.items + length record_blocks.old.items + dictionaries + 1 ≤ most_blocks) }
     ensures same_dictionaries { dictionary_blocks.new.items ≡ dictionary_blocks.old.items }
     ensures same_records { record_blocks.new.items ≡ record_blocks.old.items }
-    ensures only { IfErr result (RefusesRoom (length dictionary_blocks.old.items + length record_blocks.old.items) dictionaries) }
+    ensures only { IfErr result (RefusesBlocks (length dictionary_blocks.old.items + length record_blocks.old.items) dictionaries) }
 {
     if !are_few(dictionary_blocks.len(), record_blocks.len(), dictionaries) {
         return Err(Fault::Argument(ArgFault::TooLarge));

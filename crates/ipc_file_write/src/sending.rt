@@ -18,7 +18,7 @@ use crate::blocks::{Placed, place_chunk};
 use ipc_base::chunk::Chunk;
 use ipc_chunks::messages::{Messages, encode_messages};
 use ipc_devices::{Fault, Writes};
-use ipc_plan::pieces::Piece;
+use ipc_plan::pieces::{Padded, Piece};
 use ipc_plan::sending::{send_bytes, send_pieces};
 use ipc_tracker::NewDictionary;
 use ipc_write::checks::note_failure;
@@ -66,9 +66,14 @@ fn send_ending<W: Writes>(writer: &mut W, ending: &Ending) -> Result<(), Fault>
     ensures { Sends W.device (ending_bytes ending.now) writer.old result writer.new }
 {
     let pieces = [
-        Piece::Bytes(&END_OF_STREAM),
-        Piece::Zeros(ending.zeros as usize),
-        Piece::Bytes(&ending.bytes),
+        Padded {
+            piece: Piece::Bytes(&END_OF_STREAM),
+            zeros: ending.zeros as usize,
+        },
+        Padded {
+            piece: Piece::Bytes(&ending.bytes),
+            zeros: 0,
+        },
     ];
     // There are no numbers in it, so that either byte order will do.
     send_pieces(writer, &pieces, Endianness::Little)

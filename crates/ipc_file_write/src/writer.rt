@@ -10,7 +10,7 @@ ghost use Rattle.ipc_schema_write.specs.WriterAnswers.{byte_order};
 ghost use Rattle.ipc_tracker.specs.Listings.{listed};
 ghost use Rattle.ipc_write.specs.Writers.{HaveTypes, RefusesState, RefusesTypes, chosen_ids, seen_ids, fault_unless_new, fault_unless_started};
 ghost use Rattle.ipc_write.specs.declared.stream.WriterState.TheVariants.{New, Started};
-ghost use Rattle.ipc_file_write.specs.Api.{FinishesFile, IsNewWriter, MakesStarted, SetsPairs, StartsFile, WritesToFile};
+ghost use Rattle.ipc_file_write.specs.Api.{FinishesFile, FlushesFile, IsNewWriter, MakesStarted, SetsPairs, StartsFile, WritesToFile};
 ghost use Rattle.ipc_file_write.specs.Appends.{AreEmptyScratches};
 ghost use Rattle.ipc_file_write.specs.Writes.{MayList, RefusesChunk, field_normal};
 ghost use Rattle.ipc_file_write.specs.FileWriters.{MayFinish, MayStart, RefusesFinish, RefusesStart, fault_if_over, scratches_of, seen};
@@ -29,7 +29,7 @@ use ipc_footer_write::weights::is_light;
 use ipc_schema_write::defaults::writable_ipc_fields;
 use ipc_schema_write::schema::schema_to_bytes_as;
 use ipc_tracker::{DictionaryTracker, NewDictionary};
-use ipc_write::checks::{check_ids, check_new, check_started, has_type};
+use ipc_write::checks::{check_ids, check_new, check_started, flush, has_type};
 use ipc_write::stream::WriterState;
 use lower::datatypes::{Field, Metadata, Schema};
 use lower_arrays::array::AnyArray;
@@ -324,6 +324,19 @@ impl<W: Writes + Drop> FileWriter<W> {
         self.block_offsets = placed.end;
         self.dictionary_tracker.remember_all(dictionaries);
         Ok(())
+    }
+
+    /// Flushes the device, so that it keeps nothing back of what was written.
+    ///
+    /// # Errors
+    /// - `State(Failed)`: an earlier call returned `Io`. The writer is as before.
+    /// - `Io`: the flush failed. Each later `start`, `write`, `flush` and `finish` returns
+    ///   `State(Failed)`, unless the file is finished: then it stays so.
+    pub fn flush(&mut self) -> Result<(), Fault>
+        ensures flushes { FlushesFile W.device (seen self.old) result (seen self.new) }
+        ensures scratches { scratches_of self.new ≡ scratches_of self.old }
+    {
+        flush(&mut self.writer, &mut self.state)
     }
 
     // Checks whether the file may end, and makes its last bytes.

@@ -1,5 +1,5 @@
 -- How each call of a stream writer changes what its bytes mean.
-use Rattle.std.proofs.Common.{arith, ◌≡◌, ℕ, pos, ◌%◌, ◌^◌, ◌<◌, ◌⊎◌, inl, inr, IsTrue, List, [], ◌∷◌, ◌++◌, map, length, take, Some, Option, Ok, Err, refl, sym, ap, ◌∙◌, subst, append_assoc, append-nil}
+use Rattle.std.proofs.Common.{arith, ◌≡◌, ℕ, pos, ◌%◌, ◌^◌, ◌<◌, ◌⊎◌, inl, inr, IsTrue, List, [], ◌∷◌, ◌++◌, map, length, take, Some, Option, Result, Ok, Err, refl, sym, ap, ◌∙◌, subst, append_assoc, append-nil}
 use Rattle.lower.specs.TypeTrees.{FieldTrees, TypeTree}
 use Rattle.lower_types.specs.declared.Endianness.{Endianness}
 use Rattle.lower_arrays.specs.AnyLayouts.{layout_of}
@@ -25,7 +25,8 @@ use Rattle.ipc_write.specs.Framing.{message_bytes, prefix_bytes}
 use Rattle.ipc_write.specs.Meaning.{HeadHas, chunk_written, normal_types}
 use Rattle.ipc_write.specs.Messages.{messages_bytes}
 use Rattle.ipc_plan.specs.Sending.{WritesSome}
-use Rattle.ipc_write.specs.Writers.{Kept, MayBeWritten, SendStep, SendsStep, WriterSeen}
+use Rattle.ipc_write.specs.Sending.{Flushes}
+use Rattle.ipc_write.specs.Writers.{Kept, LeavesFlushed, LeavesState, MayBeWritten, SendStep, SendsStep, WriterSeen, flushed_from}
 use Rattle.ipc_write.specs.declared.stream.WriterState.{WriterState}
 use Rattle.ipc_write.specs.declared.stream.WriterState.TheVariants.{New, Started, Finished, Failed}
 use Rattle.ipc_write.proofs.MessageLists.{chunk_means}
@@ -220,6 +221,70 @@ pub begun_mark : {W : Type 0} (d : Device W) (a b : WriterSeen W) → a.state �
 begun_mark d a b was is some = record {
   kept = λ k base head chunks h. broken d a b (prefix_bytes (pos 0)) base head chunks (inr was) is (some k) h;
 }
+
+-- ---- flush
+
+-- A writer whose device has the same bytes, in the state that it had.
+flushed_stays : {W : Type 0} (d : Device W) (a : WriterSeen W) (w : W) (base : List ℕ) (head : Head) (chunks : List Chunk) → d.memory w ≡ d.memory a.device
+    → Agrees d a base head chunks → Agrees d (flushed_from a w a.state) base head chunks
+flushed_stays d a w base head chunks same h = record {
+  bytes = h.bytes;
+  held = ap before same ∙ h.held;
+  stream = at_all a.state h.stream;
+}
+  where
+    at_all : (s : WriterState) → StreamIs s a h.bytes head chunks → StreamIs s (flushed_from a w a.state) h.bytes head chunks
+    at_all New x = record { none = x.none; no_chunks = x.no_chunks; nothing = x.nothing }
+    at_all Started x = record { stream = x.stream; has = x.has }
+    at_all Finished x = x
+    at_all Failed x = x
+
+-- A new or a started writer whose device failed, and has the same bytes.
+flushed_breaks : {W : Type 0} (d : Device W) (a : WriterSeen W) (w : W) (base : List ℕ) (head : Head) (chunks : List Chunk) → (a.state ≡ New) ⊎ (a.state ≡ Started) → d.memory w ≡ d.memory a.device
+    → Agrees d a base head chunks → Agrees d (flushed_from a w Failed) base head chunks
+flushed_breaks d a w base head chunks at same h =
+    let off = stood_at a.state a h.bytes [] head chunks at h.stream in
+    record {
+      bytes = h.bytes;
+      held = ap before same ∙ h.held;
+      stream = subst (λ (bs : List ℕ). BreaksOff bs head chunks) (append-nil h.bytes) off;
+    }
+
+-- What a flush leaves of a stream.
+pub flush_remains : {W : Type 0} (d : Device W) (a b : WriterSeen W) (r : Result (Unit {0}) Fault) → Flushes d a.device r b.device → LeavesFlushed r a.state b.state
+    → b ≡ flushed_from a b.device b.state → Remains d a b
+flush_remains {W} d a b r f leaves same = record {
+  kept = λ k base head chunks h.
+      subst (λ (x : WriterSeen W). Agrees d x base head chunks) (sym same) (at_state a.state refl r b.state leaves (f.memory k) base head chunks h);
+}
+  where
+    stay : (s' : WriterState) → s' ≡ a.state → d.memory b.device ≡ d.memory a.device → (base : List ℕ) (head : Head) (chunks : List Chunk)
+        → Agrees d a base head chunks → Agrees d (flushed_from a b.device s') base head chunks
+    stay s' e m base head chunks h =
+        subst (λ (s : WriterState). Agrees d (flushed_from a b.device s) base head chunks) (sym e) (flushed_stays d a b.device base head chunks m h)
+
+    breaks : (s' : WriterState) → s' ≡ Failed → (a.state ≡ New) ⊎ (a.state ≡ Started) → d.memory b.device ≡ d.memory a.device → (base : List ℕ) (head : Head) (chunks : List Chunk)
+        → Agrees d a base head chunks → Agrees d (flushed_from a b.device s') base head chunks
+    breaks s' e at m base head chunks h =
+        subst (λ (s : WriterState). Agrees d (flushed_from a b.device s) base head chunks) (sym e) (flushed_breaks d a b.device base head chunks at m h)
+
+    left : (s s' : WriterState) → a.state ≡ s → (s ≡ New) ⊎ (s ≡ Started) → (q : Result (Unit {0}) Fault) → LeavesState q s s' → d.memory b.device ≡ d.memory a.device
+        → (base : List ℕ) (head : Head) (chunks : List Chunk) → Agrees d a base head chunks → Agrees d (flushed_from a b.device s') base head chunks
+    left s s' was at (Ok x) e m base head chunks h = stay s' (e ∙ sym was) m base head chunks h
+    left s s' was at (Err (Io x)) e m base head chunks h = breaks s' e (subst (λ (z : WriterState). (z ≡ New) ⊎ (z ≡ Started)) (sym was) at) m base head chunks h
+    left s s' was at (Err _) e m base head chunks h = stay s' (e ∙ sym was) m base head chunks h
+
+    failed_stays : (s' : WriterState) → a.state ≡ Failed → (q : Result (Unit {0}) Fault) → LeavesState q Failed s' → s' ≡ a.state
+    failed_stays s' was (Ok x) e = e ∙ sym was
+    failed_stays s' was (Err (Io x)) e = e ∙ sym was
+    failed_stays s' was (Err _) e = e ∙ sym was
+
+    at_state : (s : WriterState) → a.state ≡ s → (q : Result (Unit {0}) Fault) (s' : WriterState) → LeavesFlushed q s s' → d.memory b.device ≡ d.memory a.device
+        → (base : List ℕ) (head : Head) (chunks : List Chunk) → Agrees d a base head chunks → Agrees d (flushed_from a b.device s') base head chunks
+    at_state New was q s' e m base head chunks h = left New s' was (inl refl) q e m base head chunks h
+    at_state Started was q s' e m base head chunks h = left Started s' was (inr refl) q e m base head chunks h
+    at_state Finished was q s' e m base head chunks h = stay s' (e ∙ sym was) m base head chunks h
+    at_state Failed was q s' e m base head chunks h = stay s' (failed_stays s' was q e) m base head chunks h
 
 -- ---- new
 

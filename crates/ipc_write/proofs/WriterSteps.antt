@@ -1,5 +1,5 @@
 -- Calls of a writer that send, or are refused before anything is sent.
-use Rattle.std.proofs.Common.{◌≡◌, ℕ, ◌^◌, ◌<◌, ◌≤◌, ◌⊎◌, inl, inr, Bool, IsTrue, List, [], ◌∷◌, ◌++◌, length, map, Option, None, Result, Ok, Err, arith, ap, refl}
+use Rattle.std.proofs.Common.{◌≡◌, ℕ, ◌^◌, ◌<◌, ◌≤◌, ◌⊎◌, inl, inr, Bool, IsTrue, List, [], ◌∷◌, ◌++◌, length, map, Option, None, IfSome, IfErr, Result, Ok, Err, arith, ap, refl}
 use Rattle.std.specs.Prelude.{Vec}
 use Rattle.std.specs.Int.{next_multiple_of}
 use Rattle.std.specs.declared.alloc.Global.{Global}
@@ -25,9 +25,9 @@ use Rattle.ipc_tracker.specs.Listings.{remembering_all}
 use Rattle.ipc_tracker.specs.Trackers.{IsSameMemory}
 use Rattle.ipc_write.specs.Messages.{messages_bytes}
 use Rattle.ipc_write.specs.Sending.{Delivers, FailsOrIsFull, HandsMessages, OnSent, SendsOrRefuses}
-use Rattle.ipc_write.specs.Writers.{Kept, LeavesState, MayList, RefusesFinish, RefusesStart, RefusesState, SendStep, SendsStep, SendsSchema, StateComesFirst, WriterSeen, chosen_ids, fault_unless_new, fault_unless_started}
+use Rattle.ipc_write.specs.Writers.{Kept, LeavesFlushed, LeavesState, MayList, RefusesFinish, RefusesFlush, RefusesStart, RefusesState, SendStep, SendsStep, SendsSchema, StateComesFirst, WriterSeen, chosen_ids, fault_if_failed, fault_unless_new, fault_unless_started}
 use Rattle.ipc_write.specs.declared.stream.WriterState.{WriterState}
-use Rattle.ipc_write.specs.declared.stream.WriterState.TheVariants.{Failed}
+use Rattle.ipc_write.specs.declared.stream.WriterState.TheVariants.{New, Started, Finished, Failed}
 use Rattle.ipc_write.proofs.Deliveries.{delivered}
 use Rattle.ipc_write.proofs.Sends.{some_none}
 
@@ -57,6 +57,27 @@ state_finish s _ h = absurd h
 pub io_finish : {W : Type 0} (d : Device W) (s : WriterState) (e : Fault) → IsIoOf d e → RefusesFinish s e
 io_finish d s (Io x) h = tt
 io_finish d s _ h = absurd h
+
+-- ---- flush
+
+-- A device that failed, in a flush.
+pub io_flush : {W : Type 0} (d : Device W) (s : WriterState) (r : Result (Unit {0}) Fault) → IfErr r (IsIoOf d) → IfErr r (RefusesFlush s)
+io_flush d s (Ok x) h = tt
+io_flush d s (Err (Io x)) h = tt
+io_flush d s (Err _) h = absurd h
+
+-- A writer that isn't finished is left by a flush as by another call.
+pub leaves_flushed : (r : Result (Unit {0}) Fault) (s s' : WriterState) → (s ≡ Finished → ⊥) → LeavesState r s s' → LeavesFlushed r s s'
+leaves_flushed r Finished s' going h = absurd (going refl)
+leaves_flushed r New s' going h = h
+leaves_flushed r Started s' going h = h
+leaves_flushed r Failed s' going h = h
+
+pub not_failed : (s : WriterState) (P : StateFault → Type 0) → (s ≡ Failed → ⊥) → IfSome (fault_if_failed s) P
+not_failed Failed P not = absurd (not refl)
+not_failed New P not = tt
+not_failed Started P not = tt
+not_failed Finished P not = tt
 
 -- The message of a schema whose length fits wasn't sent whole.
 pub unsent_start : (X : Type 0) {W : Type 0} (d : Device W) (w w' : W) (e : Fault) (bytes : List ℕ) (reason : Type 0) (s : WriterState) (fs : FieldTrees) (es : Pairs) (is : IdTrees)

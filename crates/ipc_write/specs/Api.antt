@@ -1,9 +1,10 @@
 -- What each call of a stream writer does.
 -- (Arrow columnar format, "IPC Streaming Format".)
-use Rattle.std.specs.Prelude.{◌≡◌, pos, IsTrue, List, Option, Result, IfErr, OnOk}
+use Rattle.std.specs.Prelude.{◌≡◌, pos, IsTrue, List, Option, Result, Err, IfErr, IfSome, OnOk}
 use Rattle.ipc_base.specs.IdTrees.{IdTrees}
 use Rattle.ipc_devices.specs.Device.{Device}
 use Rattle.ipc_devices.specs.declared.fault.Fault.{Fault}
+use Rattle.ipc_devices.specs.declared.fault.Fault.TheVariants.{State}
 use Rattle.ipc_devices.specs.declared.fault.StateFault.{StateFault}
 use Rattle.lower.specs.TypeTrees.{FieldTrees, Pairs}
 use Rattle.lower_arrays.specs.declared.array.AnyArray.{AnyArray}
@@ -11,7 +12,8 @@ use Rattle.ipc_schema_write.specs.WriterAnswers.{written_head_as}
 use Rattle.ipc_write.specs.Agreement.{Appends, BeginsStream, Remains}
 use Rattle.ipc_write.specs.Framing.{prefix_bytes}
 use Rattle.ipc_write.specs.Meaning.{chunk_written}
-use Rattle.ipc_write.specs.Writers.{RefusesFinish, RefusesStart, RefusesWrite, SendStep, SendsStep, SendsSchema, StartsWith, StateComesFirst, TakesChunk, WriterSeen, WritesExactly, fault_unless_new, fault_unless_started}
+use Rattle.ipc_write.specs.Sending.{Flushes}
+use Rattle.ipc_write.specs.Writers.{LeavesFlushed, RefusesFinish, RefusesFlush, RefusesStart, RefusesWrite, SendStep, SendsStep, SendsSchema, StartsWith, StateComesFirst, TakesChunk, WriterSeen, WritesExactly, fault_if_failed, fault_unless_new, fault_unless_started, flushed_from}
 use Rattle.ipc_write.specs.declared.stream.WriterState.TheVariants.{Started, Finished}
 
 -- How a call changes a writer's state. `own` is the error of a state in which the call
@@ -56,5 +58,25 @@ pub record FinishesStream {W : Type 0} (d : Device W) (a : WriterSeen W) (r : Re
   pub flushed : OnOk r (IsTrue (d.is_flushed b.device))
   -- If it is Ok, the writer was started, and is finished.
   pub state : StateStep (fault_unless_started a.state) ((a.state ≡ Started) × (b.state ≡ Finished)) a r b
+  -- In memory, the stream has the chunks that it had.
+  pub content : Remains d a b
+
+-- How a flush changes a writer.
+pub record FlushStep {W : Type 0} (a : WriterSeen W) (r : Result Unit Fault) (b : WriterSeen W) : Type 0 where
+  -- The state is checked before all else.
+  pub first : IfSome (fault_if_failed a.state) (λ e. r ≡ Err (State e))
+  -- After an error of the device, the writer has failed, unless it is finished.
+  pub state : LeavesFlushed r a.state b.state
+  -- But for its device and its state, it is as it was.
+  pub same : b ≡ flushed_from a b.device b.state
+
+-- `flush`: it took the writer from a to b.
+pub record FlushesStream {W : Type 0} (d : Device W) (a : WriterSeen W) (r : Result Unit Fault) (b : WriterSeen W) : Type 0 where
+  -- What each error means.
+  pub causes : IfErr r (RefusesFlush a.state)
+  -- Nothing was sent, and what the device says of the flush.
+  pub device : Flushes d a.device r b.device
+  -- What of the writer stays.
+  pub state : FlushStep a r b
   -- In memory, the stream has the chunks that it had.
   pub content : Remains d a b

@@ -3,7 +3,8 @@ use Rattle.std.specs.Prelude.{◌≡◌, ℕ, ◌<◌, ◌≤◌, ◌⊎◌, Boo
 use Rattle.lower_types.specs.declared.Endianness.{Endianness}
 use Rattle.lower_arrays.specs.Layouts.{Layout}
 use Rattle.ipc_devices.specs.Acts.{IsIoOf}
-use Rattle.ipc_devices.specs.Device.{Device, Rises, WritesOver}
+use Rattle.ipc_devices.specs.Device.{Device, IsAnswered, Rises, WritesOver}
+use Rattle.ipc_devices.specs.Faults.{IfIo, OnIo, OnRefused}
 use Rattle.ipc_devices.specs.declared.fault.Fault.{Fault}
 use Rattle.ipc_devices.specs.declared.fault.Fault.TheVariants.{Argument, Io}
 use Rattle.ipc_devices.specs.declared.fault.ArgFault.TheVariants.{TooLarge}
@@ -53,3 +54,15 @@ pub record HandsMessages {W : Type 0} (d : Device W) (order : Endianness) (colum
   pub own : Message
   pub are : OnSent r (AreMessages order columns list dictionaries own)
   pub sends : SendsOrKeeps d w r w' (messages_bytes (dictionaries ++ own ∷ []))
+
+-- A call that sends nothing and flushes a device took it from a to b. An `Io` is an error that the
+-- device returned, and counted as a failure. If the call returns Ok, the device keeps nothing back.
+pub record Flushes {W : Type 0} (d : Device W) (a : W) (r : Result Unit Fault) (b : W) : Type 0 where
+  pub monotone : d.failures a ≤ d.failures b
+  pub failed : OnIo r (Rises (d.failures a) (d.failures b))
+  pub answered : IfIo r (IsAnswered d)
+  pub refused : OnRefused r (b ≡ a)
+  pub done : OnOk r (d.failures b ≡ d.failures a)
+  pub flushed : OnOk r (IsTrue (d.is_flushed b))
+  pub memory : IsTrue d.is_memory → d.memory b ≡ d.memory a
+  pub names : d.names b ≡ d.names a

@@ -112,6 +112,11 @@ fault_unless_new Started = Some faults.AlreadyStarted
 fault_unless_new Finished = Some faults.Finished
 fault_unless_new Failed = Some faults.Failed
 
+-- The error of a state in which a writer isn't flushed.
+abbrev pub fault_if_failed : WriterState → Option StateFault
+fault_if_failed Failed = Some faults.Failed
+fault_if_failed _ = None
+
 -- A state refuses with its own error.
 abbrev pub RefusesState : Option StateFault → Fault → Type 0
 RefusesState own (State e) = own ≡ Some e
@@ -148,6 +153,11 @@ abbrev pub LeavesState : Result Unit Fault → WriterState → WriterState → T
 LeavesState (Ok x) s s' = s' ≡ s
 LeavesState (Err (Io e)) s s' = s' ≡ Failed
 LeavesState (Err _) s s' = s' ≡ s
+
+-- The state in which a flush leaves the writer. A finished one stays so.
+abbrev pub LeavesFlushed : Result Unit Fault → WriterState → WriterState → Type 0
+LeavesFlushed r Finished s' = s' ≡ Finished
+LeavesFlushed r s s' = LeavesState r s s'
 
 -- If a call sends anything, it sends the messages of these columns. They are those of the
 -- dictionaries that are new or differ from those remembered, inner before outer, and that of the
@@ -258,6 +268,16 @@ abbrev pub RefusesFinish : WriterState → Fault → Type 0
 RefusesFinish s (State e) = fault_unless_started s ≡ Some e
 RefusesFinish s (Io e) = Unit {0}
 RefusesFinish s _ = ⊥
+
+-- Why a writer isn't flushed.
+abbrev pub RefusesFlush : WriterState → Fault → Type 0
+RefusesFlush s (State e) = fault_if_failed s ≡ Some e
+RefusesFlush s (Io e) = Unit {0}
+RefusesFlush s _ = ⊥
+
+-- All but the device and the state of a writer stays.
+abbrev pub flushed_from : {W : Type 0} → WriterSeen W → W → WriterState → WriterSeen W
+flushed_from a device state = record { device = device; state = state; order = a.order; types = a.types; ids = a.ids; dictionaries = a.dictionaries }
 
 -- The ids that are passed, or else the default ids of the fields.
 abbrev pub chosen_ids : Option (Vec IpcField Global) → FieldTrees → IdTrees

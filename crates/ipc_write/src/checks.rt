@@ -1,16 +1,18 @@
 //! What stream and file writers check: their state, and what they were started with.
-ghost use Rattle.std.specs.Prelude.{◌≡◌, ◌↔◌, IfErr, IfSome, IsSomeAnd, IsTrue, OnErr, OnOk};
+ghost use Rattle.std.specs.Prelude.{◌≡◌, ◌↔◌, Err, IfErr, IfSome, IsSomeAnd, IsTrue, OnErr, OnOk};
+ghost use Rattle.ipc_devices.specs.Acts.{IsIoOf};
 ghost use Rattle.lower_arrays.specs.AnyLayouts.{layout_of};
 ghost use Rattle.lower_arrays.specs.Slots.{IsArray};
 ghost use Rattle.ipc_base.specs.IdTrees.{all_ids_view};
 ghost use Rattle.ipc_devices.specs.declared.fault.ArgFault.TheVariants.{FieldsDiffer};
-ghost use Rattle.ipc_devices.specs.declared.fault.Fault.TheVariants.{Argument};
-ghost use Rattle.ipc_write.specs.Writers.{HasType, RefusesState, fault_unless_new, fault_unless_started, normal_view, seen_ids};
+ghost use Rattle.ipc_devices.specs.declared.fault.Fault.TheVariants.{Argument, State};
+ghost use Rattle.ipc_write.specs.Writers.{HasType, LeavesFlushed, RefusesFlush, RefusesState, fault_if_failed, fault_unless_new, fault_unless_started, normal_view, seen_ids};
+ghost use Rattle.ipc_write.specs.Sending.{Flushes};
 ghost use Rattle.ipc_write.specs.declared.stream.WriterState.TheVariants.{Failed, New, Started};
 
 use crate::stream::WriterState;
 use ipc_base::ipc::IpcField;
-use ipc_devices::{ArgFault, Fault, StateFault};
+use ipc_devices::{ArgFault, Fault, StateFault, Writes};
 use ipc_schema_write::dictionaries::are_same_ids;
 use lower::datatypes::{DataType, is_same_normal_type};
 use lower_arrays::array::AnyArray;
@@ -78,4 +80,35 @@ pub fn note_failure(state: &mut WriterState, sent: Result<(), Fault>) -> Result<
         *state = WriterState::Failed;
     }
     sent
+}
+
+// Flushes a device. The only error is `Io`.
+fn flush_device<W: Writes>(writer: &mut W) -> Result<(), Fault>
+    ensures flushes { Flushes W.device writer.old result writer.new }
+    ensures only { IfErr result (IsIoOf W.device) }
+{
+    match writer.flush() {
+        Ok(()) => Ok(()),
+        Err(error) => Err(Fault::Io(error)),
+    }
+}
+
+/// Flushes the device of a writer that hasn't failed.
+///
+/// If that fails, the state is `Failed`, except that a finished writer stays so. The errors are
+/// `State(Failed)` and `Io`.
+pub fn flush<W: Writes>(writer: &mut W, state: &mut WriterState) -> Result<(), Fault>
+    ensures flushes { Flushes W.device writer.old result writer.new }
+    ensures only { IfErr result (RefusesFlush state.old) }
+    ensures first { IfSome (fault_if_failed state.old) (λ e. result ≡ Err (State e)) }
+    ensures state { LeavesFlushed result state.old state.new }
+{
+    match *state {
+        WriterState::Failed => Err(Fault::State(StateFault::Failed)),
+        WriterState::Finished => flush_device(writer),
+        _ => {
+            let flushed = flush_device(writer);
+            note_failure(state, flushed)
+        }
+    }
 }

@@ -15,7 +15,7 @@ ghost use Rattle.ipc_schema_write.specs.WriterAnswers.{byte_order};
 ghost use Rattle.ipc_tracker.specs.Listings.{listed};
 ghost use Rattle.ipc_write.specs.declared.stream.WriterState.TheVariants.{New};
 ghost use Rattle.ipc_write.specs.Agreement.{IsFresh};
-ghost use Rattle.ipc_write.specs.Api.{FinishesStream, StartsStream, WritesToStream};
+ghost use Rattle.ipc_write.specs.Api.{FinishesStream, FlushesStream, StartsStream, WritesToStream};
 ghost use Rattle.ipc_write.specs.Framing.{message_bytes, prefix_bytes};
 ghost use Rattle.ipc_write.specs.Meaning.{normal_types};
 ghost use Rattle.ipc_write.specs.Messages.{RefusesHanding};
@@ -24,7 +24,7 @@ ghost use Rattle.ipc_write.specs.Writers.{HaveTypes, LeavesState, MayList, Refus
 
 mod writer;
 
-use crate::checks::{check_ids, check_new, check_started, has_type, note_failure};
+use crate::checks::{check_ids, check_new, check_started, flush, has_type, note_failure};
 use crate::common::{WriteOptions, byte_order};
 use crate::common_sync::{write_continuation, write_head, write_messages};
 use ipc_base::chunk::Chunk;
@@ -283,6 +283,18 @@ impl<W: Writes + Drop> StreamWriter<W> {
         )?;
         self.dictionary_tracker.remember_all(dictionaries);
         Ok(())
+    }
+
+    /// Flushes the device, so that it keeps nothing back of what was written.
+    ///
+    /// # Errors
+    /// - `State(Failed)`: an earlier call returned `Io`. The writer is as before.
+    /// - `Io`: the flush failed. Each later `start`, `write`, `flush` and `finish` returns
+    ///   `State(Failed)`, unless the stream is finished: then it stays so.
+    pub fn flush(&mut self) -> Result<(), Fault>
+        ensures { FlushesStream W.device (seen self.old) result (seen self.new) }
+    {
+        flush(&mut self.writer, &mut self.state)
     }
 
     /// Writes the end mark of the stream, and flushes the device.
