@@ -9,15 +9,15 @@ use Rattle.std.specs.declared.sync.Arc.{Arc}
 use Rattle.lower_arrays.specs.Held.{held}
 use Rattle.lower_arrays.specs.Layouts.{Layout}
 use Rattle.lower_arrays.specs.declared.array.AnyArray.{AnyArray}
-use Rattle.ipc_devices.specs.Gives.{Stop, going, Gives, GivesInOrder, GivesNothing}
+use Rattle.ipc_devices.specs.Gives.{going, Gives, GivesInOrder, GivesNothing}
 use Rattle.ipc_devices.specs.declared.fault.Fault.{Fault}
 use Rattle.ipc_read_flat.specs.Bodies.{array_found, array_under}
-use Rattle.ipc_model.specs.Frame.{frame, message}
+use Rattle.ipc_model.specs.Frame.{frame}
 use Rattle.ipc_model.specs.Streams.{Header, Known, header_of}
 use Rattle.ipc_readers.proofs.Items.{is_message, none_begun}
 use Rattle.ipc_readers.specs.ChosenStreams.{Request}
 use Rattle.ipc_readers.specs.Frames.{FrameGave}
-use Rattle.ipc_readers.specs.KeptValues.{IsHeldBy, IsFramed, KeepsValues, KeptOfBatch, KeptOfBody, KeptOfItem, PutsGiven, PutsMessage, KeepsArrays}
+use Rattle.ipc_readers.specs.KeptValues.{IsHeldBy, KeepsValues, KeptOfBatch, KeptOfBody, KeptOfItem, PutsGiven, PutsMessage, KeepsArrays}
 use Rattle.ipc_readers.specs.Streams.{ItemGave}
 use Rattle.ipc_readers.specs.declared.read.begun.Frame.TheVariants as frames
 use Rattle.ipc_readers.specs.declared.read.stream.reader.Found.{Found}

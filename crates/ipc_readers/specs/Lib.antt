@@ -7,3 +7,4 @@ pub mod Streams
 pub mod Refusals
 pub mod Runs
 pub mod Api
+pub mod Chunks

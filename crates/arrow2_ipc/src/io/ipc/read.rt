@@ -20,7 +20,7 @@ pub use ipc_read::read::Dictionaries;
 pub use ipc_read::read::common::read_record_batch;
 pub use ipc_read::read::dictionaries::read_dictionary;
 pub use ipc_readers::read::stream::{
-    StreamMetadata, StreamReader, StreamState, read_stream_metadata,
+    Chunks, StreamMetadata, StreamReader, StreamState, read_stream_metadata,
 };
 pub use ipc_round_trip::columns::read_stream_columns;
 pub use ipc_round_trip::read::{WholeStream, read_stream};

@@ -1,5 +1,5 @@
 //! Reads the next chunk of a stream.
-ghost use Rattle.std.specs.Prelude.{◌≡◌, ◌<◌, ◌+◌, ◌^◌, ◌↔◌, IsTrue, IsSome, IfOk, IfErr, OnOk, OnErr, length, vec_capacity};
+ghost use Rattle.std.specs.Prelude.{◌≡◌, ◌<◌, ◌+◌, ◌-◌, ◌^◌, ◌↔◌, IsTrue, IsSome, IfOk, IfErr, OnOk, OnErr, length, vec_capacity};
 ghost use Rattle.std.specs.Iterator.{endless};
 ghost use Rattle.ipc_devices.specs.Device.{IsAnswered};
 ghost use Rattle.ipc_devices.specs.Faults.{IfIo, OnIo, OwnFault};
@@ -13,6 +13,7 @@ ghost use Rattle.ipc_table_views.specs.Unions.{header_parts};
 ghost use Rattle.lower.specs.TypeViews.{fields_view};
 ghost use Rattle.ipc_projection.specs.ChosenColumns.{items_of};
 ghost use Rattle.ipc_readers.specs.Api.{MakesReader, TriesReader};
+ghost use Rattle.ipc_readers.specs.Chunks.{chunks_left, lender, lent};
 ghost use Rattle.ipc_readers.specs.KeptValues.{KeepsValues, KeptOfBatch, KeptOfBody, KeptOfItem, KeepsArrays, values_in, values_of};
 ghost use Rattle.ipc_readers.specs.Messages.{header_seen};
 ghost use Rattle.ipc_readers.specs.Refusals.{IsStreamFault};
@@ -21,6 +22,7 @@ ghost use Rattle.ipc_readers.specs.Streams.{NextStep, IsWaiting, HasChunk, BodyG
 use crate::read::begun::{Begun, Frame};
 use crate::read::frame::read_frame;
 use crate::read::message::{Message, open_message};
+use crate::read::stream::chunks::Chunks;
 use crate::read::stream::metadata::StreamMetadata;
 use crate::read::stream::reader::{Batches, Found, StreamReader, StreamState};
 use ipc_base::chunk::Chunk;
@@ -319,6 +321,20 @@ impl<R: Reads + Drop> StreamReader<R> {
         ensures { result.now ≡ schema_of self.now }
     {
         shown(&self.batches.projection, &self.batches.metadata.schema)
+    }
+
+    /// The chunks, for a loop that ends at the end mark, after an error, and where the stream
+    /// waits.
+    ///
+    /// Afterwards [`is_finished`](StreamReader::is_finished) tells a stream that waits from one
+    /// that has ended. If more bytes have come, the iterator or a new one goes on. It gives at most
+    /// 2^64 - 1 chunks, so that a loop over them ends.
+    pub fn chunks(&mut self) -> Chunks<'_, R>
+        ensures lender { lender result ≡ self.entry.ghost_name }
+        ensures lent { lent result ≡ self.entry.now }
+        ensures left { chunks_left result ≡ 2 ^ 64 - 1 }
+    {
+        Chunks::new(self)
     }
 
     /// Whether `next` returns None from now on: after the end mark or an error.
