@@ -19,6 +19,8 @@ mod float_streams;
 #[cfg(test)]
 mod floats;
 #[cfg(test)]
+mod flushes;
+#[cfg(test)]
 mod numbers;
 #[cfg(test)]
 mod offsets;
@@ -26,6 +28,8 @@ mod offsets;
 mod readers;
 #[cfg(test)]
 mod spans;
+#[cfg(test)]
+mod stream_chunks;
 #[cfg(test)]
 mod type_texts;
 #[cfg(test)]
