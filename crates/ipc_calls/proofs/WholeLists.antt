@@ -1,12 +1,11 @@
 -- Whole streams and whole files in memory, by the calls of their writers.
-use Rattle.std.proofs.Common.{◌≡◌, ℕ, List, [], ◌∷◌, ◌++◌, Result, Ok, Err, refl, sym, ap, ◌∙◌, subst}
+use Rattle.std.proofs.Common.{◌≡◌, ℕ, List, [], ◌∷◌, Ok, Err, refl, sym, ap, ◌∙◌, subst}
 use Rattle.std.specs.Prelude.{Vec}
 use Rattle.std.specs.declared.alloc.Global.{Global}
 use Rattle.lower.specs.TypeTrees.{FieldTrees, Pairs}
 use Rattle.lower_types.specs.declared.Endianness.{Endianness}
 use Rattle.ipc_base.specs.IdTrees.{IdTrees}
 use Rattle.ipc_devices.specs.Device.{before}
-use Rattle.ipc_devices.specs.declared.fault.Fault.{Fault}
 use Rattle.ipc_model.specs.Batches.{Chunk}
 use Rattle.ipc_model.specs.Streams.{Head}
 use Rattle.ipc_model.specs.WriterStates.{answered}
@@ -16,11 +15,11 @@ use Rattle.ipc_write.specs.Writers.{WriterSeen}
 use Rattle.ipc_write.specs.declared.stream.WriterState.{WriterState}
 use Rattle.ipc_write.specs.declared.stream.WriterState.TheVariants.{Finished}
 use Rattle.ipc_file_write.specs.Calls.{EndsFile, HasChosen, IdsAre, IsWrittenFile, vector}
-use Rattle.ipc_file_write.specs.FileWriters.{Agrees as FileAgrees, FileSeen, IsFileOf}
+use Rattle.ipc_file_write.specs.FileWriters.{Agrees as FileAgrees}
 use Rattle.ipc_file_write.proofs.CallLists.{finished_before, vector_before}
 use Rattle.ipc_calls.specs.StreamCalls as streams
 use Rattle.ipc_calls.specs.FileCalls as files
-use Rattle.ipc_calls.specs.WholeLaws.{FileOfCallsLaw, FinishFile, FinishStream, OneHeadLaw, StreamOfCallsLaw}
+use Rattle.ipc_calls.specs.WholeLaws.{FileOfCallsLaw, OneHeadLaw, StreamOfCallsLaw}
 use Rattle.ipc_calls.specs.declared.streams.WriterCall.TheVariants.{Start, Write, Finish}
 use Rattle.ipc_calls.proofs.StreamLists as stream
 use Rattle.ipc_calls.proofs.FileLists as file

@@ -1,6 +1,6 @@
 -- Lists of calls, what they leave, and what they don't.
 -- (Arrow columnar format, "IPC Streaming Format" and "IPC File Format".)
-use Rattle.std.specs.Prelude.{◌≡◌, List, [], ◌∷◌, Option, Result, Ok, Err, String, Vec}
+use Rattle.std.specs.Prelude.{◌≡◌, List, [], ◌∷◌, Option, Ok, Err, String, Vec}
 use Rattle.std.specs.BTreeMap.{BTreeMap}
 use Rattle.std.specs.Borrow.{Bor}
 use Rattle.std.specs.declared.alloc.Global.{Global}
