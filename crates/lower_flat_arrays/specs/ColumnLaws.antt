@@ -101,6 +101,10 @@ mutual
   slots-refl no_slots = refl
   slots-refl (more_slots x xs) = rw (slot-refl x, slots-refl xs)
 
+-- The test says exactly whether two slots are equal.
+pub slot_decides : (x y : Slot) → Decides (same_slot x y) (x ≡ y)
+slot_decides x y = (slot-sound x y, λ e. ap (same_slot x) (sym e) ∙ slot-refl x)
+
 column-sound : (x y : Column) → same_column x y ≡ true → x ≡ y
 column-sound x y h =
     let (p, q) = and_parts (same_type x.type y.type) (pointwise same_slot x.slots y.slots) h in

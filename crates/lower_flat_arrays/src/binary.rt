@@ -1,5 +1,5 @@
 //! Arrays of byte strings of any length.
-ghost use Rattle.std.specs.Prelude.{◌≡◌, ◌+◌, ◌≤◌, MatchResult, IfOk, IsTrue, not, ◌↔◌, ◌<◌, ◌-◌, ◌^◌, length, min};
+ghost use Rattle.std.specs.Prelude.{◌≡◌, ◌+◌, ◌≤◌, MatchResult, IfOk, IsTrue, not, ◌↔◌, ◌<◌, ◌-◌, ◌^◌, length, min, SomeIff};
 ghost use Rattle.std.specs.Option.{option_copied};
 ghost use Rattle.std.specs.Iterator.{YieldsFirstBy, item_count};
 ghost use Rattle.lower.specs.TypeViews.{type_view};
@@ -8,6 +8,7 @@ ghost use Rattle.lower_flat_arrays.specs.Validities.{null_count_of, is_valid};
 ghost use Rattle.lower_flat_arrays.specs.Spans.{spans_seen, span_count, span, cut_spans};
 ghost use Rattle.lower_flat_arrays.specs.Binaries.{bytes_with, IsBinary, BreaksBinary};
 
+use crate::ranges::is_range;
 use crate::validity::{
     clone_validity, compact_validity, fits, is_valid_at, sliced_validity, unset_bits,
     validity_bytes,
@@ -192,6 +193,20 @@ impl<O: Offset> BinaryArray<O> {
             values,
             validity: sliced_validity(validity, offset, len),
         }
+    }
+
+    /// Returns the `len` slots from `offset`, as [`BinaryArray::sliced`] does.
+    ///
+    /// It is `None` if the array hasn't all of them; the array is dropped then.
+    pub fn try_sliced(self, offset: usize, len: usize) -> Option<Self>
+        ensures { SomeIff result
+            (offset + len ≤ span_count self.offsets)
+            (cut_spans offset len self) }
+    {
+        if !is_range(offset, len, self.len()) {
+            return None;
+        }
+        Some(self.sliced(offset, len))
     }
 
     /// Returns the bytes of the slot at `index`, or `None` if it is null.

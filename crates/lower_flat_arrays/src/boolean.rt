@@ -1,5 +1,5 @@
 //! Arrays of booleans.
-ghost use Rattle.std.specs.Prelude.{◌≡◌, ◌+◌, ◌≤◌, length, MatchResult, IfOk, IsTrue, not, false, ◌↔◌, ◌<◌, get_or, false, ◌-◌, ◌^◌, min, ◌*◌};
+ghost use Rattle.std.specs.Prelude.{◌≡◌, ◌+◌, ◌≤◌, length, MatchResult, IfOk, IsTrue, not, false, ◌↔◌, ◌<◌, get_or, false, ◌-◌, ◌^◌, min, ◌*◌, SomeIff};
 ghost use Rattle.std.specs.Option.{option_copied};
 ghost use Rattle.std.specs.Iterator.{YieldsFirst, item_count};
 ghost use Rattle.lower.specs.TypeViews.{type_view};
@@ -7,6 +7,7 @@ ghost use Rattle.lower_flat_arrays.specs.Options.{option_where, options};
 ghost use Rattle.lower_flat_arrays.specs.Validities.{null_count_of, is_valid};
 ghost use Rattle.lower_flat_arrays.specs.Booleans.{boolean_seen, IsBoolean, BreaksBoolean, cut_boolean};
 
+use crate::ranges::is_range;
 use crate::validity::{
     clone_validity, compact_validity, fits, is_valid_at, sliced_validity, unset_bits,
     validity_bytes,
@@ -152,6 +153,20 @@ impl BooleanArray {
             values: values.sliced(offset, len),
             validity: sliced_validity(validity, offset, len),
         }
+    }
+
+    /// Returns the `len` slots from `offset`, as [`BooleanArray::sliced`] does.
+    ///
+    /// It is `None` if the array hasn't all of them; the array is dropped then.
+    pub fn try_sliced(self, offset: usize, len: usize) -> Option<Self>
+        ensures { SomeIff result
+            (offset + len ≤ length self.values)
+            (cut_boolean offset len self) }
+    {
+        if !is_range(offset, len, self.len()) {
+            return None;
+        }
+        Some(self.sliced(offset, len))
     }
 
     /// Returns the boolean at `index`, or `None` if the slot is null.

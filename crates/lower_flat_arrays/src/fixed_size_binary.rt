@@ -1,5 +1,5 @@
 //! Arrays of byte strings of one length.
-ghost use Rattle.std.specs.Prelude.{◌≡◌, ◌+◌, ◌*◌, ◌≤◌, MatchResult, IfOk, IsTrue, not, ◌↔◌, ◌<◌, ◌-◌, ◌^◌, length, min};
+ghost use Rattle.std.specs.Prelude.{◌≡◌, ◌+◌, ◌*◌, ◌≤◌, MatchResult, IfOk, IsTrue, not, ◌↔◌, ◌<◌, ◌-◌, ◌^◌, length, min, SomeIff};
 ghost use Rattle.std.specs.Option.{option_copied};
 ghost use Rattle.std.specs.Iterator.{YieldsFirstBy, item_count};
 ghost use Rattle.lower.specs.TypeViews.{type_view};
@@ -7,6 +7,7 @@ ghost use Rattle.lower_flat_arrays.specs.Options.{option_where, options, pieces}
 ghost use Rattle.lower_flat_arrays.specs.Validities.{null_count_of, is_valid, part};
 ghost use Rattle.lower_flat_arrays.specs.FixedBinaries.{byte_size, fixed_seen, IsFixedBinary, BreaksFixedBinary, cut_fixed};
 
+use crate::ranges::is_range;
 use crate::validity::{
     clone_validity, compact_validity, fits, is_valid_at, sliced_validity, unset_bits,
     validity_bytes,
@@ -193,6 +194,20 @@ impl FixedSizeBinaryArray {
             values: values.sliced(offset * size, len * size),
             validity: sliced_validity(validity, offset, len),
         }
+    }
+
+    /// Returns the `len` slots from `offset`, as [`FixedSizeBinaryArray::sliced`] does.
+    ///
+    /// It is `None` if the array hasn't all of them; the array is dropped then.
+    pub fn try_sliced(self, offset: usize, len: usize) -> Option<Self>
+        ensures { SomeIff result
+            (offset + len ≤ self.len)
+            (cut_fixed offset len self) }
+    {
+        if !is_range(offset, len, self.len()) {
+            return None;
+        }
+        Some(self.sliced(offset, len))
     }
 
     /// Returns the bytes of the slot at `index`, or `None` if it is null.

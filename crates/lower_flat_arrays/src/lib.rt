@@ -11,6 +11,7 @@ pub mod equality;
 mod fixed_size_binary;
 mod null;
 mod primitive;
+pub mod ranges;
 mod spans;
 mod texts;
 mod utf8;

@@ -1,8 +1,9 @@
 //! Arrays of nulls.
-ghost use Rattle.std.specs.Prelude.{◌≡◌, ◌+◌, ◌<◌, ◌≤◌, MatchResult, IsTrue, ◌↔◌, None, false, true};
+ghost use Rattle.std.specs.Prelude.{◌≡◌, ◌+◌, ◌<◌, ◌≤◌, MatchResult, IsTrue, ◌↔◌, None, false, true, SomeIff};
 ghost use Rattle.lower.specs.TypeViews.{type_view};
 ghost use Rattle.lower_flat_arrays.specs.Nulls.{null_seen, IsNull, BreaksNull, cut_null};
 
+use crate::ranges::is_range;
 use lower::bitmap::Bitmap;
 use lower::datatypes::{DataType, PhysicalType};
 use lower::error::{Error, Rule};
@@ -100,6 +101,20 @@ impl NullArray {
     {
         let NullArray { data_type, .. } = self;
         NullArray { data_type, len }
+    }
+
+    /// Returns the `len` slots from `offset`, as [`NullArray::sliced`] does.
+    ///
+    /// It is `None` if the array hasn't all of them; the array is dropped then.
+    pub fn try_sliced(self, offset: usize, len: usize) -> Option<Self>
+        ensures { SomeIff result
+            (offset + len ≤ self.len)
+            (cut_null len self) }
+    {
+        if !is_range(offset, len, self.len()) {
+            return None;
+        }
+        Some(self.sliced(offset, len))
     }
 
     /// Returns `true`: each slot is null.

@@ -1,14 +1,15 @@
 //! Arrays of numbers.
-ghost use Rattle.std.specs.Prelude.{◌≡◌, ◌+◌, ◌≤◌, length, MatchResult, MatchOption, IsTrue, IfOk, not, true, false, None, get_or, ◌↔◌, ◌<◌, ◌-◌, ◌^◌, min, ◌*◌};
+ghost use Rattle.std.specs.Prelude.{◌≡◌, ◌+◌, ◌≤◌, length, MatchResult, MatchOption, IsTrue, IfOk, not, true, false, None, get_or, ◌↔◌, ◌<◌, ◌-◌, ◌^◌, min, ◌*◌, SomeIff};
 ghost use Rattle.std.specs.Option.{option_copied};
 ghost use Rattle.std.specs.Iterator.{YieldsFirst, item_count};
 ghost use Rattle.lower.specs.TypeTrees.{plain};
 ghost use Rattle.lower.specs.TypeViews.{type_view};
 ghost use Rattle.lower.specs.Physical.{number_type};
 ghost use Rattle.lower_flat_arrays.specs.Options.{options};
-ghost use Rattle.lower_flat_arrays.specs.Validities.{null_count_of, is_valid};
+ghost use Rattle.lower_flat_arrays.specs.Validities.{null_count_of, is_valid, ValidityFits};
 ghost use Rattle.lower_flat_arrays.specs.Primitives.{primitive_seen, IsPrimitive, BreaksPrimitive, cut_primitive};
 
+use crate::ranges::is_range;
 use crate::validity::{
     clone_validity, compact_validity, fits, is_valid_at, sliced_validity, unset_bits,
     validity_bytes,
@@ -186,6 +187,66 @@ impl<T: NativeType> PrimitiveArray<T> {
             values: values.sliced(offset, len),
             validity: sliced_validity(validity, offset, len),
         }
+    }
+
+    /// Returns the `len` slots from `offset`, as [`PrimitiveArray::sliced`] does.
+    ///
+    /// It is `None` if the array hasn't all of them; the array is dropped then.
+    pub fn try_sliced(self, offset: usize, len: usize) -> Option<Self>
+        ensures { SomeIff result
+            (offset + len ≤ length self.values)
+            (cut_primitive offset len self) }
+    {
+        if !is_range(offset, len, self.len()) {
+            return None;
+        }
+        Some(self.sliced(offset, len))
+    }
+
+    /// Returns the array with these numbers in place of its own.
+    ///
+    /// It is `None` if there are more or fewer of them than slots; all is dropped then.
+    pub fn with_values(self, values: Buffer<T>) -> Option<Self>
+        ensures { SomeIff result
+            (length values ≡ length self.values)
+            (primitive_seen self.type values self.validity) }
+    {
+        if values.len() != self.len() {
+            return None;
+        }
+        let PrimitiveArray {
+            data_type,
+            validity,
+            ..
+        } = self;
+        Some(PrimitiveArray {
+            data_type,
+            values,
+            validity,
+        })
+    }
+
+    /// Returns the array with this validity bitmap in place of its own, or without one.
+    ///
+    /// It is `None` if the bitmap has more or fewer bits than there are slots; all is dropped then.
+    pub fn with_validity(self, validity: Option<Bitmap>) -> Option<Self>
+        ensures { SomeIff result
+            (ValidityFits validity (length self.values))
+            (primitive_seen self.type self.values validity) }
+    {
+        if !fits(&validity, self.len()) {
+            return None;
+        }
+        let PrimitiveArray {
+            data_type,
+            values,
+            ..
+        } = self;
+        Some(PrimitiveArray {
+            data_type,
+            values,
+            validity,
+        })
     }
 
     /// Returns the number at `index`, even if the slot is null.
