@@ -37,7 +37,7 @@ fn put_slot(out: &mut Text, array: &AnyArray, index: usize, levels: usize) {
         Value::Truth(truth) => out.show(&truth),
         Value::Number(number) => put_number(out, number),
         Value::Bytes(bytes) => out.hex(bytes),
-        Value::Text(text) => out.text(text),
+        Value::Text(text) => out.text(text.as_bytes()),
         Value::Nested(nesting, children, index) => {
             put_nested(out, nesting, children, index, levels - 1)
         }

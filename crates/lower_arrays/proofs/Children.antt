@@ -29,6 +29,15 @@ height_at [] i y l q = let no : ⊥ = omega (arith, l) in absurd no
 height_at (z ∷ ys) zero y l q = let e : height (layout_of y) ≡ height (layout_of z) = ap (λ v. height (layout_of v)) q in omega (arith, e)
 height_at (z ∷ ys) (suc i) y l q = let below = height_at ys i y (omega (arith, l)) q in omega (arith, below)
 
+pub reach_all : (n : ℕ) (xs : List AnyArray) → AllReach n (layouts (map layout_of xs)) → All (λ x. n ≤ len_of (layout_of x)) xs
+reach_all n [] h k d l = let no : ⊥ = omega (arith, l) in absurd no
+reach_all n (x ∷ xs) h zero d l = h.0
+reach_all n (x ∷ xs) h (suc k) d l = reach_all n xs h.1 k d (omega (arith, l))
+
+pub all_reach : (n : ℕ) (xs : List AnyArray) → All (λ x. n ≤ len_of (layout_of x)) xs → AllReach n (layouts (map layout_of xs))
+all_reach n [] h = tt
+all_reach n (x ∷ xs) h = (h 0 x (omega arith), all_reach n xs (λ k d l. h (suc k) d (omega (arith, l))))
+
 -- ---- what the rules see of children
 pub types_are : (xs : List AnyArray) → types_of (layouts (map layout_of xs)) ≡ map (λ x. type_of (layout_of x)) xs
 types_are [] = refl

@@ -8,3 +8,4 @@ pub mod HeldBytes
 pub mod Checked
 pub mod ItemPlaces
 pub mod SameSlots
+pub mod SlotSteps

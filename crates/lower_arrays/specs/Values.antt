@@ -1,8 +1,8 @@
 -- What a value means that was read from one slot of an array.
 -- (Arrow columnar format, "Physical Memory Layout".)
-use Rattle.std.specs.Prelude.{ℕ, ℤ, ◌+◌, ◌<◌, ◌≤◌, List, [], ◌∷◌, map, length}
+use Rattle.std.specs.Prelude.{ℕ, ℤ, ◌+◌, ◌-◌, ◌<◌, ◌≤◌, List, [], ◌∷◌, map, length}
 use Rattle.lower_types.specs.NumberTypes.{Number, whole, wide, day_time, month_day_nano}
-use Rattle.lower_arrays.specs.Layouts.{layouts, heights}
+use Rattle.lower_arrays.specs.Layouts.{layouts, heights, len_of}
 use Rattle.lower_arrays.specs.Children.{AllReach}
 use Rattle.lower_arrays.specs.Slots.{Slot, null_slot, truth_slot, number_slot, bytes_slot, text_slot, list_slot, record_slot, variant_slot, slots_of, slots_from, slot_at}
 use Rattle.lower_arrays.specs.AnyLayouts.{layout_of}
@@ -12,6 +12,7 @@ use Rattle.lower_arrays.specs.declared.value.Scalar.TheVariants.{Whole, Wide, Da
 use Rattle.lower_arrays.specs.declared.value.Nesting.{Nesting}
 use Rattle.lower_arrays.specs.declared.value.Nesting.TheVariants.{List as ListOf, Record, Variant}
 use Rattle.lower_arrays.specs.declared.value.Value.{Value}
+use Rattle.lower_arrays.specs.declared.value.ValueIter.{ValueIter}
 use Rattle.lower_arrays.specs.declared.value.Value.TheVariants.{Null, Truth, Number as NumberOf, Bytes, Text, Nested}
 
 -- The number that a scalar is.
@@ -78,3 +79,8 @@ ValueFits _ = Unit {0}
 abbrev pub value_height : Value → ℕ
 value_height (Nested k cs i) = heights (layouts (map layout_of cs.now))
 value_height _ = 0
+
+-- The slots that an iterator over an array hasn't visited, in order.
+abbrev pub values_left : ValueIter → List Slot
+values_left rest =
+    let l = layout_of rest.array.now in slots_from (slot_at l) rest.index (len_of l - rest.index)

@@ -1,6 +1,6 @@
 //! Arrays with children, and arrays of any layout.
-ghost use Rattle.std.specs.Prelude.{◌≡◌, ◌+◌, ◌<◌, ◌≤◌, take, drop, IfOk};
-ghost use Rattle.std.specs.Option.{option_copied};
+ghost use Rattle.std.specs.Prelude.{◌≡◌, ◌+◌, ◌<◌, ◌≤◌, take, drop, IfOk, SomeIff};
+ghost use Rattle.std.specs.Option.{option_copied, option_map};
 ghost use Rattle.lower.specs.TypeViews.{type_view};
 ghost use Rattle.lower_arrays.specs.Layouts.{level, len_of, type_of, nulls_of};
 ghost use Rattle.lower_arrays.specs.Slots.{IsArray, slots};
@@ -17,12 +17,13 @@ mod map;
 mod struct_;
 mod union;
 
-pub use children::{compact_each, retained_each};
+pub use children::{compact_each, retained_each, sliced_each};
 pub use dictionary::{DictionaryArray, DictionaryArray as AnyDictionary, is_dictionary};
 pub use fixed_size_list::FixedSizeListArray;
 pub use list::ListArray;
 use lower::bitmap::Bitmap;
 use lower::datatypes::DataType;
+pub use lower_flat_arrays::ranges::is_range;
 pub use lower_flat_arrays::{
     BinaryArray, BinaryIter, BooleanArray, BooleanIter, DaysMsArray, FixedSizeBinaryArray,
     FixedSizeBinaryIter, Int8Array, Int16Array, Int32Array, Int64Array, Int128Array, Int256Array,
@@ -180,6 +181,20 @@ impl AnyArray {
         ensures slots { slots (layout_of result) ≡ take len (drop offset (slots (layout_of self))) }
     {
         self.part(offset, len)
+    }
+
+    /// Returns the `len` slots from `offset`, as [`AnyArray::sliced`] does.
+    ///
+    /// It is `None` if the array hasn't all of them; the array is dropped then.
+    pub fn try_sliced(self, offset: usize, len: usize) -> Option<Self>
+        ensures { SomeIff (option_map layout_of result)
+            (offset + len ≤ len_of (layout_of self))
+            (cut offset len (layout_of self)) }
+    {
+        if !is_range(offset, len, self.len()) {
+            return None;
+        }
+        Some(self.sliced(offset, len))
     }
 
     /// Keeps only the `len` slots from `offset`. It allocates nothing.

@@ -1,5 +1,6 @@
 //! Equality of arrays.
 ghost use Rattle.std.specs.Prelude.{◌≡◌, ◌↔◌, ◌+◌, ◌<◌, ◌≤◌, IsTrue, map};
+ghost use Rattle.std.specs.List.{All};
 ghost use Rattle.std.specs.Ordering.{on};
 ghost use Rattle.lower.specs.TypeViews.{type_view};
 ghost use Rattle.lower_flat_arrays.specs.Columns.{IsSame, same_column};
@@ -16,7 +17,7 @@ ghost use Rattle.lower_arrays.specs.Dictionaries.{dictionary_layout};
 ghost use Rattle.lower_arrays.specs.AnyLayouts.{layout_of};
 ghost use Rattle.lower_arrays.specs.Values.{scalar_number, record_slots, nested_slot, NestedFits, value_slot, ValueFits};
 ghost use Rattle.lower_arrays.specs.declared.value.Nesting.TheVariants.{List as ListOf, Variant};
-ghost use Rattle.lower_arrays.specs.Sameness.{SameRange};
+ghost use Rattle.lower_arrays.specs.Sameness.{SameRange, IsSameValue, same_value, values_per};
 
 use crate::array::{
     AnyArray, DictionaryArray, FixedSizeListArray, ListArray, MapArray, StructArray, UnionArray,
@@ -27,6 +28,7 @@ use crate::value::{
 };
 use lower::datatypes::DataType;
 use lower_flat_arrays::equality::{ToColumn, is_same_column};
+use lower_flat_arrays::ranges::is_range;
 
 /// Returns whether both have the same data type and slots, as `==` does.
 ///
@@ -118,11 +120,11 @@ fn are_bytes(value: Value<'_>, bytes: &[u8]) -> bool
     }
 }
 
-fn is_text(value: Value<'_>, text: &[u8]) -> bool
+fn is_text(value: Value<'_>, text: &str) -> bool
     ensures { IsTrue result ↔ (text_slot text.now ≡ value_slot value.entry) }
 {
     match value {
-        Value::Text(other) => *text == *other,
+        Value::Text(other) => text == other,
         _ => false,
     }
 }
@@ -224,6 +226,63 @@ fn have_same_slots(lhs: &[AnyArray], i: usize, rhs: &[AnyArray], j: usize) -> bo
         }
     }
     true
+}
+
+impl Value<'_> {
+    /// Returns whether the slots of the value are all within its arrays, as those of arrays are.
+    pub fn is_within(&self) -> bool
+        ensures { IsTrue result ↔ ValueFits self.now }
+    {
+        match *self {
+            Value::Nested(nesting, children, index) => is_nested_within(nesting, children, index),
+            _ => true,
+        }
+    }
+}
+
+// Whether both are within their arrays and the same slot.
+fn are_one_slot(lhs: &Value<'_>, rhs: &Value<'_>) -> bool
+    ensures { IsTrue result ↔ IsSameValue lhs.now rhs.now }
+{
+    lhs.is_within() && rhs.is_within() && is_same_value(*lhs, *rhs)
+}
+
+fn is_nested_within(nesting: Nesting, children: &[AnyArray], index: usize) -> bool
+    ensures { IsTrue result ↔ NestedFits nesting children.now index }
+{
+    match nesting {
+        Nesting::Record => all_reach(children, index, 1),
+        Nesting::List(len) => !children.is_empty() && all_reach(children, index, len),
+        Nesting::Variant(_) => !children.is_empty() && all_reach(children, index, 1),
+    }
+}
+
+// Whether each child has the `len` slots from `index`.
+fn all_reach(children: &[AnyArray], index: usize, len: usize) -> bool
+    ensures { IsTrue result ↔ AllReach (index + len) (layouts (map layout_of children.now)) }
+{
+    each_reaches(children, index, len)
+}
+
+// The same, child by child.
+fn each_reaches(children: &[AnyArray], index: usize, len: usize) -> bool
+    ensures { IsTrue result
+        ↔ All (λ child. index + len ≤ len_of (layout_of child)) children.now }
+{
+    children
+        .iter()
+        .all(|child| is_range(index, len, child.len()))
+}
+
+/// It is no equivalence: a nested value whose slots aren't all within its arrays equals none.
+impl PartialEq for Value<'_> {
+    ghost eq = { same_value };
+
+    ghost laws = { values_per };
+
+    fn eq(&self, other: &Self) -> bool {
+        are_one_slot(self, other)
+    }
 }
 
 // Compares slot by slot, for any two arrays.

@@ -1,8 +1,10 @@
 //! Single slots of arrays.
-ghost use Rattle.std.specs.Prelude.{◌≡◌, ◌↔◌, ◌+◌, ◌<◌, ◌≤◌, length, IsTrue};
+ghost use Rattle.std.specs.Prelude.{◌≡◌, ◌↔◌, ◌+◌, ◌<◌, ◌≤◌, length, IsTrue, IfSome, SomeIff};
+ghost use Rattle.std.specs.Option.{option_map};
+ghost use Rattle.std.specs.Iterator.{YieldsFirstBy, item_count};
 ghost use Rattle.lower_flat_arrays.specs.Spans.{span_count};
 ghost use Rattle.lower_arrays.specs.Layouts.{len_of, height};
-ghost use Rattle.lower_arrays.specs.Slots.{slot_at};
+ghost use Rattle.lower_arrays.specs.Slots.{slot_at, slots};
 ghost use Rattle.lower_arrays.specs.Primitives.{primitive_layout};
 ghost use Rattle.lower_arrays.specs.Flat.{boolean_layout, fixed_layout, bytes_layout, texts_layout};
 ghost use Rattle.lower_arrays.specs.Lists.{list_layout};
@@ -12,7 +14,7 @@ ghost use Rattle.lower_arrays.specs.Maps.{map_layout};
 ghost use Rattle.lower_arrays.specs.Unions.{union_layout};
 ghost use Rattle.lower_arrays.specs.Dictionaries.{dictionary_layout};
 ghost use Rattle.lower_arrays.specs.AnyLayouts.{any_primitive_layout, layout_of};
-ghost use Rattle.lower_arrays.specs.Values.{scalar_number, span, child_slot, IsOneChild, value_slot, ValueFits, value_height};
+ghost use Rattle.lower_arrays.specs.Values.{scalar_number, span, child_slot, IsOneChild, value_slot, ValueFits, value_height, values_left};
 
 use crate::array::{
     AnyArray, AnyPrimitive, BinaryArray, BooleanArray, DictionaryArray, FixedSizeBinaryArray,
@@ -23,7 +25,7 @@ use lower::types::{NativeType, days_ms, i256, months_days_ns};
 use std::slice;
 
 /// A number of any type that arrays can have.
-#[derive(Clone, Copy)]
+#[derive(Debug, Clone, Copy, PartialEq, Eq)]
 pub enum Scalar {
     Whole(i128),
     Wide(i256),
@@ -32,7 +34,7 @@ pub enum Scalar {
 }
 
 /// How a nested slot is made of slots of children.
-#[derive(Clone, Copy)]
+#[derive(Debug, Clone, Copy, PartialEq, Eq)]
 pub enum Nesting {
     /// A list of this many consecutive slots of the first child.
     List(usize),
@@ -43,13 +45,16 @@ pub enum Nesting {
 }
 
 /// The value of one slot of an array.
-#[derive(Clone, Copy)]
+///
+/// Two values are equal by `==` if they are the same slot, wherever their children lie. A nested
+/// value whose slots aren't all within its arrays, which no array has, equals none.
+#[derive(Debug, Clone, Copy)]
 pub enum Value<'a> {
     Null,
     Truth(bool),
     Number(Scalar),
     Bytes(&'a [u8]),
-    Text(&'a [u8]),
+    Text(&'a str),
     /// Slots of these children at an index.
     Nested(Nesting, &'a [AnyArray], usize),
 }
@@ -162,6 +167,73 @@ pub fn value_at(array: &AnyArray, index: usize) -> Value<'_>
     }
 }
 
+impl AnyArray {
+    /// Returns the value of the slot at `index`, or `None` if `index` isn't below the length.
+    ///
+    /// [`value_at`] is the same for an index that is known to be below the length.
+    pub fn slot(&self, index: usize) -> Option<Value<'_>>
+        ensures slot { SomeIff (option_map value_slot result)
+            (index < len_of (layout_of self.now))
+            (slot_at (layout_of self.now) index) }
+        ensures fits { IfSome result ValueFits }
+        ensures height { IfSome result
+            (λ value. value_height value ≤ height (layout_of self.now)) }
+    {
+        if index >= self.len() {
+            return None;
+        }
+        Some(value_at(self, index))
+    }
+
+    /// Iterates over the values of all slots, in order.
+    #[tactic(auto, using(crate::proofs::SlotSteps::slot_steps))]
+    pub fn iter(&self) -> ValueIter<'_>
+        ensures { values_left result ≡ slots (layout_of self.now) }
+    {
+        ValueIter {
+            array: self,
+            index: 0,
+        }
+    }
+}
+
+/// An iterator over the values of the slots of an array.
+#[derive(Drop)]
+pub struct ValueIter<'a> {
+    array: &'a AnyArray,
+    index: usize,
+}
+
+impl<'a> Iterator for ValueIter<'a> {
+    type Item = Value<'a>;
+
+    ghost next_gives = { YieldsFirstBy value_slot values_left };
+
+    ghost remaining = { item_count values_left };
+
+    #[tactic(auto, using(crate::proofs::SlotSteps::slot_steps))]
+    fn next(&mut self) -> Option<Value<'a>> {
+        let index = self.index;
+        if index >= self.array.len() {
+            return None;
+        }
+        self.index += 1;
+        Some(value_at(self.array, index))
+    }
+}
+
+impl<'a> IntoIterator for &'a AnyArray {
+    type Item = Value<'a>;
+
+    type IntoIter = ValueIter<'a>;
+
+    ghost into_iter_gives = { λ array rest. values_left rest ≡ slots (layout_of array.now) };
+
+    fn into_iter(self) -> ValueIter<'a> {
+        self.iter()
+    }
+}
+
 fn boolean_value(array: &BooleanArray, index: usize) -> Value<'_>
     requires { index < length array.now.values }
     ensures slot { value_slot result ≡ slot_at (boolean_layout array.now) index }
@@ -244,7 +316,7 @@ fn text_value<O: Offset>(array: &Utf8Array<O>, index: usize) -> Value<'_>
     if !array.is_valid(index) {
         return Value::Null;
     }
-    Value::Text(array.value(index).as_bytes())
+    Value::Text(array.value(index))
 }
 
 // A list of slots of one child, or a slot of a union.

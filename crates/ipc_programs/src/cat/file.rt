@@ -14,7 +14,7 @@ ghost use Rattle.ipc_programs.specs.declared.cat.show.Outcome.TheVariants.{Done,
 use crate::cat::chosen::{Chosen, chosen_among};
 use crate::cat::forms::FileWords;
 use crate::cat::printer::Printer;
-use crate::cat::show::{Outcome, put_schema};
+use crate::cat::show::{Outcome, put_schema, send_chunk};
 use arrow2_ipc::io::ipc::fault::{Fault, Reads, Seeks, Writes};
 use arrow2_ipc::io::ipc::read::{FileReader, read_file_metadata};
 use std::alloc::Global;
@@ -103,6 +103,6 @@ fn show_block<F: Reads + Seeks + Drop, W: Writes>(
         return Ok(false);
     };
     let chunk = next?;
-    printer.take_chunk(&chunk)?;
+    send_chunk(printer, &chunk)?;
     Ok(true)
 }

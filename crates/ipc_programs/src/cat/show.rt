@@ -109,7 +109,7 @@ fn show_chunk<R: Reads + Drop, W: Writes>(
 {
     match reader.next_chunk()? {
         Next::Chunk(chunk) => {
-            printer.take_chunk(&chunk)?;
+            send_chunk(printer, &chunk)?;
             Ok(None)
         }
         Next::End(ending) => Ok(Some(ending)),
@@ -127,15 +127,13 @@ fn put_ending<W: Writes>(printer: &mut Printer<W>, ending: Ending) -> Result<(),
     }
 }
 
-impl<'a, W: Writes> Printer<'a, W> {
-    /// Prints a chunk row by row, and sends the buffer.
-    pub fn take_chunk(&mut self, chunk: &Chunk<AnyArray>) -> Result<(), Fault>
-        ensures only { IfErr result (λ e. OwnFault e ⊥) }
-        ensures all { OnOk result (PrintsAll W.device self.old self.new) }
-    {
-        put_chunk(self, chunk)?;
-        self.send()
-    }
+/// Prints a chunk row by row, and sends the buffer.
+pub fn send_chunk<W: Writes>(printer: &mut Printer<W>, chunk: &Chunk<AnyArray>) -> Result<(), Fault>
+    ensures only { IfErr result (λ e. OwnFault e ⊥) }
+    ensures all { OnOk result (PrintsAll W.device printer.old printer.new) }
+{
+    put_chunk(printer, chunk)?;
+    printer.send()
 }
 
 /// Prints the names of these fields.

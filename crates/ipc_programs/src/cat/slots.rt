@@ -38,7 +38,7 @@ pub fn put_slot<W: Writes>(
             printer.put(b"h")?;
             put_digits(printer, bytes)
         }
-        Value::Text(text) => put_text(printer, text),
+        Value::Text(text) => put_text(printer, text.as_bytes()),
         Value::Nested(nesting, children, place) => put_nested(printer, nesting, children, place),
     }
 }

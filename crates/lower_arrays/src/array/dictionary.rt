@@ -1,5 +1,5 @@
 //! Arrays whose slots are values of a dictionary.
-ghost use Rattle.std.specs.Prelude.{◌≡◌, ◌↔◌, pos, ◌+◌, ◌<◌, ◌≤◌, true, length, get_or, IsTrue, IfOk, MatchResult};
+ghost use Rattle.std.specs.Prelude.{◌≡◌, ◌↔◌, pos, ◌+◌, ◌<◌, ◌≤◌, true, length, get_or, IsTrue, IfOk, MatchResult, SomeIff};
 ghost use Rattle.std.specs.Option.{option_copied};
 ghost use Rattle.lower.specs.TypeViews.{type_view};
 ghost use Rattle.lower_flat_arrays.specs.Validities.{null_count_of, is_valid};
@@ -14,6 +14,7 @@ use super::AnyArray;
 use lower::bitmap::Bitmap;
 use lower::datatypes::DataType;
 use lower::error::Error;
+use lower_flat_arrays::ranges::is_range;
 use lower_validation::fields::is_ordered;
 use lower_validation::keys::DictionaryKeys;
 use lower_validation::rules::check_dictionary;
@@ -199,6 +200,20 @@ impl DictionaryArray {
             keys: keys.sliced(offset, len),
             values,
         }
+    }
+
+    /// Returns the `len` slots from `offset`, as [`DictionaryArray::sliced`] does.
+    ///
+    /// It is `None` if the array hasn't all of them; the array is dropped then.
+    pub fn try_sliced(self, offset: usize, len: usize) -> Option<Self>
+        ensures { SomeIff result
+            (offset + len ≤ length self.keys.integers)
+            (cut_dictionary offset len self) }
+    {
+        if !is_range(offset, len, self.len()) {
+            return None;
+        }
+        Some(self.sliced(offset, len))
     }
 
     /// Returns the number of bytes that stay allocated as long as the array exists.

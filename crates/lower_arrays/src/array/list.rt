@@ -1,5 +1,5 @@
 //! Arrays of lists.
-ghost use Rattle.std.specs.Prelude.{◌≡◌, ◌+◌, ◌-◌, ◌<◌, ◌≤◌, ◌↔◌, MatchResult, IsTrue, IfOk, slice_index};
+ghost use Rattle.std.specs.Prelude.{◌≡◌, ◌+◌, ◌-◌, ◌<◌, ◌≤◌, ◌↔◌, MatchResult, IsTrue, IfOk, slice_index, SomeIff};
 ghost use Rattle.std.specs.Option.{option_copied};
 ghost use Rattle.lower.specs.TypeViews.{type_view};
 ghost use Rattle.lower_flat_arrays.specs.Validities.{null_count_of, is_valid};
@@ -15,6 +15,7 @@ use super::AnyArray;
 use lower::bitmap::Bitmap;
 use lower::datatypes::DataType;
 use lower::error::Error;
+use lower_flat_arrays::ranges::is_range;
 use lower_flat_arrays::validity::{
     clone_validity, compact_validity, is_valid_at, sliced_validity, unset_bits, validity_bytes,
 };
@@ -174,6 +175,20 @@ impl ListArray {
             values,
             validity: sliced_validity(validity, offset, len),
         }
+    }
+
+    /// Returns the `len` slots from `offset`, as [`ListArray::sliced`] does.
+    ///
+    /// It is `None` if the array hasn't all of them; the array is dropped then.
+    pub fn try_sliced(self, offset: usize, len: usize) -> Option<Self>
+        ensures { SomeIff result
+            (offset + len ≤ span_count self.offsets)
+            (cut_list offset len self) }
+    {
+        if !is_range(offset, len, self.len()) {
+            return None;
+        }
+        Some(self.sliced(offset, len))
     }
 
     /// Returns the list at `index`, even if it is null.

@@ -1,5 +1,5 @@
 //! Arrays of unions.
-ghost use Rattle.std.specs.Prelude.{◌≡◌, ◌↔◌, pos, None, ◌+◌, ◌<◌, ◌≤◌, length, map, get_or, IsTrue, IfOk, MatchResult};
+ghost use Rattle.std.specs.Prelude.{◌≡◌, ◌↔◌, pos, None, ◌+◌, ◌<◌, ◌≤◌, length, map, get_or, IsTrue, IfOk, MatchResult, SomeIff};
 ghost use Rattle.std.specs.Option.{option_copied};
 ghost use Rattle.lower.specs.TypeViews.{type_view};
 ghost use Rattle.lower_arrays.specs.Layouts.{layouts, len_of};
@@ -15,6 +15,7 @@ use lower::bitmap::Bitmap;
 use lower::buffer::Buffer;
 use lower::datatypes::DataType;
 use lower::error::Error;
+use lower_flat_arrays::ranges::is_range;
 use lower_validation::ids::{child_number, union_ids};
 use lower_validation::places::{clone_offsets, compact_offsets, offsets_bytes};
 use lower_validation::rules::check_union;
@@ -212,6 +213,20 @@ impl UnionArray {
                 offsets: Some(offsets.sliced(offset, len)),
             },
         }
+    }
+
+    /// Returns the `len` slots from `offset`, as [`UnionArray::sliced`] does.
+    ///
+    /// It is `None` if the array hasn't all of them; the array is dropped then.
+    pub fn try_sliced(self, offset: usize, len: usize) -> Option<Self>
+        ensures { SomeIff result
+            (offset + len ≤ length self.types)
+            (cut_union offset len self) }
+    {
+        if !is_range(offset, len, self.len()) {
+            return None;
+        }
+        Some(self.sliced(offset, len))
     }
 
     // A clone.

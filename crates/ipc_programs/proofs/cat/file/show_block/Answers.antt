@@ -12,4 +12,4 @@ pub returns-in_default-clause-prints : goal.returns-in_default-clause-prints
 returns-in_default-clause-prints g c = nothing_printed _
 
 pub returns-clause-prints : goal.returns-clause-prints
-returns-clause-prints g c = all_prints c.in_ok-take_chunk.ensures.all
+returns-clause-prints g c = all_prints c.in_ok-send_chunk.ensures.all
