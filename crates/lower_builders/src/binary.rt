@@ -176,9 +176,7 @@ impl<O: Offset> MutableBinaryArray<O> {
     {
         let mut array = MutableBinaryArray::with_capacity(alloc, values.len())?;
         for value in values {
-            if let Err(error) = array.push(Some(*value)) {
-                return Err(error);
-            }
+            array.push(Some(*value))?;
         }
         Ok(array)
     }
@@ -197,9 +195,7 @@ impl<O: Offset> MutableBinaryArray<O> {
     {
         let mut array = MutableBinaryArray::with_capacity(alloc, slots.len())?;
         for slot in slots {
-            if let Err(error) = array.push(*slot) {
-                return Err(error);
-            }
+            array.push(*slot)?;
         }
         Ok(array)
     }

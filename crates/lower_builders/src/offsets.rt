@@ -119,9 +119,7 @@ impl<O: Offset> Offsets<O> {
     {
         let mut offsets = Offsets::with_capacity(alloc, lengths.len())?;
         for len in lengths {
-            if let Err(error) = offsets.try_push_usize(*len) {
-                return Err(error);
-            }
+            offsets.try_push_usize(*len)?;
         }
         Ok(offsets)
     }

@@ -144,9 +144,7 @@ impl<O: Offset> MutableUtf8Array<O> {
     {
         let mut array = MutableUtf8Array::with_capacity(alloc, values.len())?;
         for value in values {
-            if let Err(error) = array.push(Some(*value)) {
-                return Err(error);
-            }
+            array.push(Some(*value))?;
         }
         Ok(array)
     }
@@ -165,9 +163,7 @@ impl<O: Offset> MutableUtf8Array<O> {
     {
         let mut array = MutableUtf8Array::with_capacity(alloc, slots.len())?;
         for slot in slots {
-            if let Err(error) = array.push(*slot) {
-                return Err(error);
-            }
+            array.push(*slot)?;
         }
         Ok(array)
     }
