@@ -1,3 +1,4 @@
 pub mod Clones
 pub mod FitTests
 pub mod IdLists
+pub mod CutRows

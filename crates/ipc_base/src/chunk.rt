@@ -1,16 +1,19 @@
 //! Chunks: columns of the same length, in which data is written and read.
-ghost use Rattle.std.specs.Prelude.{◌≡◌, ◌↔◌, ◌<◌, ◌^◌, ℕ, Bool, length, map, IsTrue, IsOk, IfOk, IfErr};
+ghost use Rattle.std.specs.Prelude.{◌≡◌, ◌↔◌, ◌+◌, ◌<◌, ◌≤◌, ◌^◌, ℕ, Bool, length, map, IsTrue, IsOk, IfOk, IfErr, SomeIff};
+ghost use Rattle.std.specs.Option.{option_map};
 ghost use Rattle.std.specs.Cmp.Lexicographic.{pointwise, lists_per, lists_equiv};
 ghost use Rattle.std.specs.List.{AllZip};
 ghost use Rattle.std.specs.Slice.Iter.{iter_rest};
 ghost use Rattle.std.specs.Iterator.Adapters.{IterYieldsInOrder};
+ghost use Rattle.lower_arrays.specs.Layouts.{len_of};
+ghost use Rattle.lower_arrays.specs.Cuts.{cut};
 ghost use Rattle.lower_arrays.specs.AnyLayouts.{layout_of};
 ghost use Rattle.ipc_base.specs.Chunks.{AreEqualRows, row_count};
 ghost use Rattle.ipc_devices.specs.declared.fault.Fault.TheVariants.{Argument};
 ghost use Rattle.ipc_devices.specs.declared.fault.ArgFault.TheVariants.{UnequalRows};
 
 use crate::fault::{ArgFault, Fault};
-use lower_arrays::array::{AnyArray, compact_each, retained_each};
+use lower_arrays::array::{AnyArray, compact_each, is_range, retained_each, sliced_each};
 use std::alloc::{AllocError, Global};
 use std::marker::Model;
 use std::slice;
@@ -214,6 +217,22 @@ impl Chunk<AnyArray> {
         ensures { IfOk result (λ copy. map layout_of copy ≡ map layout_of self.now) }
     {
         Chunk::try_new(compact_each(alloc, self.arrays())?)
+    }
+
+    /// Returns the `len` rows from `offset`, in the same memory. It allocates nothing.
+    ///
+    /// It is `None` if the chunk hasn't all of them; the chunk is dropped then.
+    #[tactic(auto, using(crate::proofs::CutRows::cut_rows))]
+    pub fn try_sliced(self, offset: usize, len: usize) -> Option<Self>
+        ensures { SomeIff (option_map (map layout_of) result)
+            (offset + len ≤ row_count (λ array. len_of (layout_of array)) self)
+            (map (cut offset len) (map layout_of self)) }
+    {
+        if !is_range(offset, len, self.len()) {
+            return None;
+        }
+        let arrays = sliced_each(self.into_arrays(), offset, len);
+        Some(Chunk::new(arrays))
     }
 }
 
