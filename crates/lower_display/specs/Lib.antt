@@ -1,0 +1,9 @@
+pub mod Digits
+pub mod Dates
+pub mod Clocks
+pub mod Zones
+pub mod Numbers
+pub mod Texts
+pub mod Shown
+pub mod Wide
+pub mod Floats
