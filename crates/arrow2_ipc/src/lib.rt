@@ -6,6 +6,7 @@
 
 pub mod array;
 pub mod bitmap;
+pub mod compute;
 pub mod datatypes;
 pub mod io;
 pub mod offset;

@@ -8,3 +8,9 @@ pub mod Decided
 pub mod Maps
 pub mod Others
 pub mod SameNormal
+mod FieldBits
+mod KeptTypes
+mod ColumnSteps
+mod JoinedTexts
+mod MapTexts
+mod Halves

@@ -6,3 +6,7 @@ pub mod Normal
 pub mod Same
 pub mod Bits
 pub mod Offsets
+pub mod FloatBits
+pub mod Columns
+pub mod Halves
+pub mod Texts

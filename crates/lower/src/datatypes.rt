@@ -3,7 +3,9 @@
 //! Arrow columnar format, "Terminology" and "Data Types": a data type says which values a column
 //! can have, its physical type how they are laid out in memory. The units, tags and parameters are
 //! those of the format's `Schema.fbs`.
+pub mod bits;
 pub mod clones;
+pub mod columns;
 pub mod counts;
 pub mod equal;
 mod fields;
@@ -11,7 +13,10 @@ pub mod normal;
 mod physical_type;
 mod same_normal;
 mod schema;
+mod texts;
 
+pub use bits::{fields_as_bits, type_as_bits};
+pub use columns::{NameError, ProjectError, columns_named};
 pub use counts::{
     count_all_buffers, count_all_nodes, count_buffers, count_nodes, is_dictionary_type,
     is_within_levels,

@@ -8,5 +8,6 @@ pub mod bitmap;
 pub mod buffer;
 pub mod datatypes;
 pub mod error;
+pub mod floats;
 pub mod offset;
 pub mod types;

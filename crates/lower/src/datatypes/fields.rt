@@ -1,10 +1,9 @@
-//! Making a field, and printing a type.
+//! Making a field.
 ghost use Rattle.std.specs.Prelude.{◌≡◌, [], string_bytes};
 ghost use Rattle.lower.specs.TypeTrees.{field};
 ghost use Rattle.lower.specs.TypeViews.{type_view, field_view, pairs_of};
 
 use super::{DataType, Field, Metadata};
-use std::fmt;
 
 impl Field {
     /// Returns a field without metadata. It allocates nothing.
@@ -36,12 +35,5 @@ impl Field {
             is_nullable,
             metadata,
         }
-    }
-}
-
-/// Prints the type as `{:?}` does.
-impl fmt::Display for DataType {
-    fn fmt<W: fmt::Write>(&self, f: &mut fmt::Formatter<W>) -> fmt::Result {
-        fmt::Debug::fmt(self, f)
     }
 }

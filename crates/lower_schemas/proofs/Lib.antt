@@ -1,6 +1,0 @@
-mod Halves
-mod Joined
-mod Kept
-mod MapTexts
-mod Maps
-mod Steps

@@ -1,4 +1,0 @@
-pub mod FloatBits
-pub mod Columns
-pub mod Halves
-pub mod Texts
