@@ -36,6 +36,7 @@ pub const BLOCK: usize = 65_536;
 const SMALL_BLOCK: usize = 4096;
 
 /// A length or an offset as a `usize`; `NegativeFooterLength` if it is negative.
+#[inline(always)]
 pub fn natural(number: i64) -> Result<usize, Fault>
     ensures exact { Answers result (IsSize number) (λ n. (n ≡ size number) × (n < 2 ^ 63)) }
     ensures only { IfErr result (λ e. e ≡ OutOfSpec NegativeFooterLength) }
@@ -48,6 +49,7 @@ pub fn natural(number: i64) -> Result<usize, Fault>
 }
 
 // The length of an entry; a negative one counts as 0.
+#[inline(always)]
 fn size_of(number: i64) -> usize
     ensures size { result ≡ size number }
     ensures small { result < 2 ^ 63 }
@@ -64,6 +66,7 @@ fn size_of(number: i64) -> usize
 ///   to at most 65,536 bytes. If that memory is refused, 4,096 bytes on the stack serve.
 ///
 /// The errors are `Ended` if there are fewer numbers, `Io` and `Memory`.
+#[inline(always)]
 pub fn read_numbers<T: NativeType, R: Reads>(
     alloc: Global,
     reader: &mut R,
@@ -89,6 +92,7 @@ pub fn read_numbers<T: NativeType, R: Reads>(
 
 // The next `count` numbers, if the device can lend their bytes. None if it can't; nothing is read
 // then.
+#[inline(always)]
 fn take_shown<T: NativeType, R: Reads>(
     alloc: Global,
     reader: &mut R,
@@ -126,6 +130,7 @@ fn take_shown<T: NativeType, R: Reads>(
 // The next `count` numbers, through scratch memory, or through a small block if they are few.
 //
 // Without memory for a longer block the small one serves, so no read fails for want of it.
+#[inline(never)]
 fn read_by_block<T: NativeType, R: Reads>(
     alloc: Global,
     reader: &mut R,
@@ -278,6 +283,7 @@ fn read_next_buffer<R: Reads>(
 }
 
 // Reads `count` numbers, at least one, at `offset` bytes after `base`.
+#[inline(always)]
 fn read_numbers_at<T: NativeType, R: Reads + Seeks>(
     alloc: Global,
     reader: &mut R,
@@ -335,6 +341,7 @@ fn read_bytes_at<R: Reads + Seeks>(
 }
 
 // Whether `count` values of `width` bytes fit into `listed` bytes.
+#[inline(always)]
 fn fit(count: usize, width: usize, listed: usize) -> bool
     requires { 0 < width }
     ensures { IsTrue result ↔ width * count ≤ listed }
@@ -384,6 +391,7 @@ fn too_short(count: usize, type_name: &'static str, width: usize, listed: usize)
 /// - `Ended`: the device is too short.
 /// - `Io`, `Memory`.
 #[tactic(auto, using(crate::proofs::Refusals::ended_buffer, crate::proofs::Refusals::negative_buffer), unfolding(crate::specs::Bodies::entries))]
+#[inline(always)]
 pub fn fetch_numbers<T: NativeType, R: Reads + Seeks>(
     alloc: Global,
     reader: &mut R,
@@ -517,6 +525,7 @@ pub struct Head {
 }
 
 // Whether a null count is above 0.
+#[inline(always)]
 fn has_nulls(null_count: i64) -> bool
     ensures { MatchBool result (0 < size null_count) (size null_count ≡ 0) }
 {
@@ -524,6 +533,7 @@ fn has_nulls(null_count: i64) -> bool
 }
 
 // How many rows are read of a column of `count` rows.
+#[inline(always)]
 fn limit_rows(limit: Option<usize>, count: usize) -> usize
     ensures rows { result ≡ limited limit count }
     ensures bound { result ≤ count }
@@ -538,6 +548,7 @@ fn limit_rows(limit: Option<usize>, count: usize) -> usize
 ///
 /// A negative null count is as 0. The error is `NegativeFooterLength` if the length is negative.
 #[tactic(auto, using(crate::proofs::Refusals::negative_buffer, crate::proofs::Heads::nodes))]
+#[inline(always)]
 pub fn read_node<R: Failures>(
     body: &Body<R>,
     index: usize,
@@ -630,6 +641,7 @@ pub fn read_bits<R: Reads + Seeks>(
 /// columnar format. The errors are `NegativeFooterLength` if the length is negative, and, for a
 /// validity that is read, those of [`read_bits`].
 #[tactic(auto, using(crate::proofs::Heads::heads))]
+#[inline(always)]
 pub fn read_head<R: Reads + Seeks>(
     alloc: Global,
     reader: &mut R,

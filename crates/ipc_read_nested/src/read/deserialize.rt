@@ -606,6 +606,7 @@ fn read_whole_fields<R: Reads + Seeks>(
 /// - `FallingOffset`, `Utf8`, `NoChild`, `ChildLength`, `UnionType`, `DictionaryKey` and others of
 ///   [`lower::error::Rule`]: the parts break a rule of their array.
 /// - `Io`, `Memory`.
+#[inline(always)]
 #[tactic(auto, using(crate::proofs::ColumnLevels::same_stored))]
 pub fn read<R: Reads + Seeks>(
     alloc: Global,

@@ -36,6 +36,7 @@ use std::alloc::Global;
 /// - `InvalidBuffer`: a buffer in use is too short; `InvalidBitmap`: the validity is.
 /// - `Ended`: the device is too short.
 /// - `Io`, `Memory`.
+#[inline(always)]
 pub fn read_primitive<T: NativeType, R: Reads + Seeks>(
     alloc: Global,
     data_type: &DataType,
