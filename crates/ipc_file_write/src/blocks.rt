@@ -113,7 +113,9 @@ pub(crate) fn make_room(
     ensures few { OnOk result (length dictionary_blocks.old.items + length record_blocks.old.items + dictionaries + 1 ≤ most_blocks) }
     ensures same_dictionaries { dictionary_blocks.new.items ≡ dictionary_blocks.old.items }
     ensures same_records { record_blocks.new.items ≡ record_blocks.old.items }
-    ensures only { IfErr result (RefusesBlocks (length dictionary_blocks.old.items + length record_blocks.old.items) dictionaries) }
+    ensures only { let count = length dictionary_blocks.old.items
+        + length record_blocks.old.items in
+        IfErr result (RefusesBlocks count dictionaries) }
 {
     if !are_few(dictionary_blocks.len(), record_blocks.len(), dictionaries) {
         return Err(Fault::Argument(ArgFault::TooLarge));
