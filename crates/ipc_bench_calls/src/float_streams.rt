@@ -8,7 +8,7 @@ use arrow2_ipc::array::{
     MutablePrimitiveArray, UInt16Array, UInt32Array, UInt64Array,
 };
 use arrow2_ipc::chunk::Chunk;
-use arrow2_ipc::datatypes::{DataType, Field, IntegerType, columns_named, with_floats_as_bits};
+use arrow2_ipc::datatypes::{DataType, Field, IntegerType, columns_named};
 use arrow2_ipc::io::ipc::fault::{Fault, MemFile, Nyi, Reads};
 use arrow2_ipc::io::ipc::format::{
     Buffer, DictionaryBatch, DictionaryEncoding, DictionaryKind, Endianness, FieldNode, FieldType,
@@ -163,7 +163,7 @@ fn read(alloc: Global, bytes: &[u8], as_bits: bool) -> Result<Option<Chunk<AnyAr
     let mut input = MemFile::new(bytes);
     let mut metadata = read_stream_metadata(alloc, &mut input)?;
     if as_bits {
-        metadata.schema = with_floats_as_bits(alloc, &metadata.schema)?;
+        metadata.schema = metadata.schema.with_floats_as_bits(alloc)?;
     }
     if !fits(&metadata.schema.fields, &metadata.ipc_schema.fields) {
         return Ok(None);
@@ -179,7 +179,7 @@ fn read_named(
 ) -> Result<Option<Chunk<AnyArray>>, Fault> {
     let mut input = MemFile::new(bytes);
     let mut metadata = read_stream_metadata(alloc, &mut input)?;
-    metadata.schema = with_floats_as_bits(alloc, &metadata.schema)?;
+    metadata.schema = metadata.schema.with_floats_as_bits(alloc)?;
     if !fits(&metadata.schema.fields, &metadata.ipc_schema.fields) {
         return Ok(None);
     }

@@ -1,36 +1,16 @@
-//! Tests of the builders, of the calls on schemas, and of small calls of readers and writers.
+//! Tests of chunks, and of small calls of readers and writers.
 //!
 //! Each public call is made with known data, byte for byte. Expected bytes are those of the Arrow
-//! columnar format, floats those of IEEE 754, and texts those of Arrow C++.
+//! columnar format.
 #![tactic(auto)]
 
 #[cfg(test)]
-mod again;
-#[cfg(test)]
-mod bitmaps;
-#[cfg(test)]
-mod booleans;
-#[cfg(test)]
-mod columns;
-#[cfg(test)]
-mod fixed_sizes;
+mod chunks;
 #[cfg(test)]
 mod float_streams;
 #[cfg(test)]
-mod floats;
-#[cfg(test)]
 mod flushes;
-#[cfg(test)]
-mod numbers;
-#[cfg(test)]
-mod offsets;
 #[cfg(test)]
 mod readers;
 #[cfg(test)]
-mod spans;
-#[cfg(test)]
 mod stream_chunks;
-#[cfg(test)]
-mod type_texts;
-#[cfg(test)]
-mod types_as_bits;

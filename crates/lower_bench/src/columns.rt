@@ -1,9 +1,6 @@
 //! Columns by their names, and projections.
 
-use arrow2_ipc::datatypes::{
-    DataType, Field, Metadata, NameError, ProjectError, Schema, SchemaText, columns_named,
-    index_of, project,
-};
+use lower::datatypes::{DataType, Field, Metadata, NameError, ProjectError, Schema, columns_named};
 use std::alloc::{AllocError, Global};
 use std::test::Fail;
 
@@ -47,7 +44,7 @@ const INDICES: [(&str, Option<usize>); 6] = [
 fn first_column_of_a_name_is_found(rt: HostRuntime) -> Result<(), Fail> {
     let schema = make_schema(rt.alloc())?;
     for (name, index) in INDICES {
-        assert_eq!(rt; index_of(&schema, name), index, "{name}");
+        assert_eq!(rt; schema.index_of(name), index, "{name}");
     }
     Ok(())
 }
@@ -96,8 +93,7 @@ const PROJECTED: [(&[usize], Result<&str, ProjectError>); 6] = [
 ];
 
 fn has_text(alloc: Global, schema: &Schema, text: &str) -> Result<bool, AllocError> {
-    let shown = SchemaText(schema);
-    Ok(format!(in alloc; "{shown}")?.as_str() == text)
+    Ok(format!(in alloc; "{schema}")?.as_str() == text)
 }
 
 // Whether the columns at these indices have this text, or the error is the expected one.
@@ -106,7 +102,7 @@ fn are_projected(
     indices: &[usize],
     expected: Result<&str, ProjectError>,
 ) -> Result<bool, ProjectError> {
-    match (project(alloc, &make_schema(alloc)?, indices), expected) {
+    match (make_schema(alloc)?.project(alloc, indices), expected) {
         (Err(ProjectError::Memory), _) => Err(ProjectError::Memory),
         (Ok(schema), Ok(text)) => Ok(has_text(alloc, &schema, text)?),
         (Err(error), Err(expected)) => Ok(error == expected),
@@ -136,7 +132,7 @@ fn b_and_a(alloc: Global) -> Result<Schema, AllocError> {
 #[test]
 fn projected_columns_keep_metadata(rt: HostRuntime) -> Result<(), Fail> {
     let alloc = rt.alloc();
-    let projected = project(alloc, &make_schema(alloc)?, &[1, 0])?;
+    let projected = make_schema(alloc)?.project(alloc, &[1, 0])?;
     assert!(rt; projected == b_and_a(alloc)?);
     Ok(())
 }

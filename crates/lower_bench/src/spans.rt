@@ -2,9 +2,12 @@
 
 use crate::bitmaps::has_validity;
 use crate::offsets::are_offsets;
-use arrow2_ipc::array::{BinaryArray, BuildError, MutableBinaryArray, MutableUtf8Array, Utf8Array};
-use arrow2_ipc::datatypes::DataType;
-use arrow2_ipc::offset::Offset;
+use lower::datatypes::DataType;
+use lower::offset::Offset;
+use lower_arrays::array::{BinaryArray, Utf8Array};
+use lower_builders::binary::MutableBinaryArray;
+use lower_builders::error::BuildError;
+use lower_builders::utf8::MutableUtf8Array;
 use std::alloc::Global;
 use std::test::Fail;
 

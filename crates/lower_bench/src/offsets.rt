@@ -1,8 +1,9 @@
 //! Offsets that are built slot by slot.
 
-use arrow2_ipc::array::BuildError;
-use arrow2_ipc::offset::{Offset, Offsets, OffsetsBuffer};
-use arrow2_ipc::types::{Endianness, append_bytes};
+use lower::offset::{Offset, OffsetsBuffer};
+use lower::types::{Endianness, append_bytes};
+use lower_builders::error::BuildError;
+use lower_builders::offsets::Offsets;
 use std::alloc::Global;
 use std::test::Fail;
 

@@ -1,6 +1,7 @@
 //! Bitmaps that are built bit by bit.
 
-use arrow2_ipc::bitmap::{Bitmap, MutableBitmap};
+use lower::bitmap::Bitmap;
+use lower_builders::bitmap::MutableBitmap;
 use std::alloc::{AllocError, Global};
 use std::test::Fail;
 

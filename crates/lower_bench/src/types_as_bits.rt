@@ -1,8 +1,7 @@
 //! Types whose float types become the unsigned integers of their widths.
 
-use arrow2_ipc::datatypes::{
+use lower::datatypes::{
     DataType, Field, IntegerType, Metadata, Schema, UnionMode, fields_as_bits, type_as_bits,
-    with_floats_as_bits,
 };
 use std::alloc::{AllocError, Global};
 use std::test::Fail;
@@ -170,8 +169,8 @@ fn schema_keeps_all_but_its_floats(rt: HostRuntime) -> Result<(), Fail> {
     let alloc = rt.alloc();
     let floats = schema_of(alloc, DataType::Float32)?;
     let bits = schema_of(alloc, DataType::UInt32)?;
-    assert!(rt; with_floats_as_bits(alloc, &floats)? == bits);
+    assert!(rt; floats.with_floats_as_bits(alloc)? == bits);
     assert!(rt; fields_as_bits(alloc, &floats.fields)? == bits.fields);
-    assert!(rt; with_floats_as_bits(alloc, &bits)? == bits);
+    assert!(rt; bits.with_floats_as_bits(alloc)? == bits);
     Ok(())
 }

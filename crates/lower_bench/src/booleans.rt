@@ -1,8 +1,9 @@
 //! Arrays of booleans that are built slot by slot.
 
 use crate::bitmaps::{has_bits, has_validity};
-use arrow2_ipc::array::{BooleanArray, MutableBooleanArray};
-use arrow2_ipc::datatypes::DataType;
+use lower::datatypes::DataType;
+use lower_arrays::array::BooleanArray;
+use lower_builders::boolean::MutableBooleanArray;
 use std::alloc::{AllocError, Global};
 use std::test::Fail;
 

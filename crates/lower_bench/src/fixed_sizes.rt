@@ -1,8 +1,10 @@
 //! Arrays of byte strings of one length that are built slot by slot.
 
 use crate::bitmaps::has_validity;
-use arrow2_ipc::array::{BuildError, FixedSizeBinaryArray, MutableFixedSizeBinaryArray};
-use arrow2_ipc::datatypes::DataType;
+use lower::datatypes::DataType;
+use lower_arrays::array::FixedSizeBinaryArray;
+use lower_builders::error::BuildError;
+use lower_builders::fixed_size_binary::MutableFixedSizeBinaryArray;
 use std::alloc::Global;
 use std::test::Fail;
 

@@ -1,15 +1,13 @@
 //! Texts of types, fields and schemas, as Arrow C++'s `ToString` gives them.
 
-use arrow2_ipc::datatypes::{
-    DataType, Field, FieldText, IntegerType, IntervalUnit, Metadata, Schema, SchemaText, TimeUnit,
-    TypeText, UnionMode,
+use lower::datatypes::{
+    DataType, Field, IntegerType, IntervalUnit, Metadata, Schema, TimeUnit, UnionMode,
 };
 use std::alloc::{AllocError, Global};
 use std::test::Fail;
 
 fn has_text(alloc: Global, data_type: &DataType, text: &str) -> Result<bool, AllocError> {
-    let shown = TypeText(data_type);
-    Ok(format!(in alloc; "{shown}")?.as_str() == text)
+    Ok(format!(in alloc; "{data_type}")?.as_str() == text)
 }
 
 fn number_types() -> [(DataType, &'static str); 13] {
@@ -263,13 +261,11 @@ fn pair(alloc: Global) -> Result<Metadata, AllocError> {
 }
 
 fn field_text(alloc: Global, field: &Field) -> Result<String, AllocError> {
-    let shown = FieldText(field);
-    format!(in alloc; "{shown}")
+    format!(in alloc; "{field}")
 }
 
 fn schema_text(alloc: Global, schema: &Schema) -> Result<String, AllocError> {
-    let shown = SchemaText(schema);
-    format!(in alloc; "{shown}")
+    format!(in alloc; "{schema}")
 }
 
 #[test]

@@ -1,9 +1,11 @@
 //! Arrays of numbers that are built slot by slot.
 
 use crate::bitmaps::has_validity;
-use arrow2_ipc::array::{MutablePrimitiveArray, PrimitiveArray};
-use arrow2_ipc::datatypes::{DataType, IntervalUnit};
-use arrow2_ipc::types::{Endianness, Zero, append_bytes, days_ms, i256, months_days_ns};
+use lower::datatypes::{DataType, IntervalUnit};
+use lower::types::{Endianness, append_bytes, days_ms, i256, months_days_ns};
+use lower_arrays::array::PrimitiveArray;
+use lower_builders::primitive::MutablePrimitiveArray;
+use lower_builders::zero::Zero;
 use std::alloc::{AllocError, Global};
 use std::test::Fail;
 

@@ -1,6 +1,6 @@
 //! Floats of their bits.
 
-use arrow2_ipc::types::{f16_of_bits, f32_of_bits, f64_of_bits};
+use lower::floats::{f16_of_bits, f32_of_bits, f64_of_bits};
 use std::test::Fail;
 
 // Bits of 16, and their numbers (IEEE 754, binary16).

@@ -5,12 +5,14 @@
 
 use crate::bitmaps::{has_bits, has_validity};
 use crate::offsets::are_offsets;
-use arrow2_ipc::array::{
-    BuildError, MutableBinaryArray, MutableBooleanArray, MutableFixedSizeBinaryArray,
-    MutablePrimitiveArray, MutableUtf8Array,
-};
-use arrow2_ipc::bitmap::MutableBitmap;
-use arrow2_ipc::offset::Offsets;
+use lower_builders::binary::MutableBinaryArray;
+use lower_builders::bitmap::MutableBitmap;
+use lower_builders::boolean::MutableBooleanArray;
+use lower_builders::error::BuildError;
+use lower_builders::fixed_size_binary::MutableFixedSizeBinaryArray;
+use lower_builders::offsets::Offsets;
+use lower_builders::primitive::MutablePrimitiveArray;
+use lower_builders::utf8::MutableUtf8Array;
 use std::alloc::AllocError;
 use std::test::Fail;
 
