@@ -1,0 +1,10 @@
+use Rattle.std.proofs.Common.{◌≡◌, map, take, length}
+use Rattle.std.specs.List.{All}
+use Rattle.std.specs.Option.{option_copied}
+use Rattle.lower_flat_arrays.specs.Validities.{ValidityFits}
+use Rattle.lower_compute.proofs.boolean.validities_of.Given as goal
+
+abbrev pub invariant-loop-array : goal.invariant-loop-array
+invariant-loop-array l =
+    (map option_copied l.all.items ≡ map (λ a. a.now.validity) (take l.array-index l.arrays))
+    × All (λ a. ValidityFits a.now.validity (length a.now.values)) (take l.array-index l.arrays)
