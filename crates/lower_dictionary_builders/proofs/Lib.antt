@@ -1,0 +1,5 @@
+pub mod Keys
+pub mod Keyed
+pub mod Sets
+pub mod Texts
+pub mod Rules
