@@ -1,0 +1,11 @@
+pub mod Replicas
+pub mod Types
+pub mod Levels
+pub mod FlatNulls
+pub mod Children
+pub mod Lists
+pub mod Groups
+pub mod Empty
+pub mod FirstIds
+pub mod NullKeys
+pub mod SimpleTypes

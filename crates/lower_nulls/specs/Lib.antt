@@ -1,0 +1,2 @@
+pub mod Nulls
+pub mod Storage
