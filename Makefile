@@ -25,9 +25,8 @@ build:
 mutations:
 	tools/mutations $(NAMES)
 
-# Proves and runs the tests of lower_bench, ipc_bench, ipc_bench_files,
-# ipc_bench_programs and ipc_bench_calls with each of their allocations refused in turn, or make
-# refused ONLY="WORD ..": those whose names have a word.
+# Proves and runs the tests of the crates lower_bench.. and ipc_bench.. with each of their allocations
+# refused in turn, or make refused ONLY="WORD ..": those whose names have a word.
 refused:
 	tools/refused $(ONLY)
 
